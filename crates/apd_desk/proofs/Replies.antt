@@ -11,7 +11,7 @@ use Rattle.apd_mlme.specs.declared.decision.Out.TheVariants.{Frame, Install, Rem
 use Rattle.apd_mlme.specs.declared.decision.Recipient.{Recipient}
 use Rattle.apd_mlme.specs.declared.decision.Recipient.TheVariants.{Control}
 use Rattle.apd_desk.specs.Replied.{Reply, and_replies}
-use Rattle.apd_desk.specs.Replying.{AreMade, AreReadyOfSome, AreReplied, AreSettled, AreSomeOf, HasReplied, IsAnswerOfSome, IsAtOnce, IsEither}
+use Rattle.apd_desk.specs.Replying.{AreMade, AreReadyInSomeCore, AreReplied, AreSettled, AreSomeOf, HasReplied, IsAnswerOfSomeCore, IsAtOnce, IsEither}
 
 -- ---- such replies, time after time
 module _ (Such : List Reply → Type 0) where
@@ -93,16 +93,16 @@ and_next outs out x y z (p, some, is) (q, next, then) =
     (p ++ q, passed_on outs (out ∷ []) p q some next, then ∙ ap (λ w. and_replies w q) is ∙ replies_on x p q)
 
 -- what was ready, and is settled so
-pub settled : (outs : List Out) (x y : Option (List Reply)) → AreReadyOfSome Control outs → AreReplied outs x y → HasReplied AreSettled x y
+pub settled : (outs : List Out) (x y : Option (List Reply)) → AreReadyInSomeCore Control outs → AreReplied outs x y → HasReplied AreSettled x y
 settled outs x y ready (replies, some, is) = once AreSettled replies x y (outs, ready, some) is
 
 -- ---- what a shared core tells
 pub told : {E : Type 0} (answer : Result Answer E) (core : CoreState) (query : Query) → IfOk answer (λ is. is ≡ answer_to_query core query)
-    → IfOk answer IsAnswerOfSome
+    → IfOk answer IsAnswerOfSomeCore
 told (Ok answer) core query is = (core, is ∙ ap (answer_to_query core) (sym (ap (λ (a : Answer). a.query) is)))
 told (Err fault) core query is = tt
 
 pub collected : {V E : Type 0} (answer : Result V E) (items : V → List Out) (to : Recipient) (core : CoreState) → IsCore core
-    → IfOk answer (λ v. items v ≡ ready_for to core) → IfOk answer (λ v. AreReadyOfSome to (items v))
+    → IfOk answer (λ v. items v ≡ ready_for to core) → IfOk answer (λ v. AreReadyInSomeCore to (items v))
 collected (Ok v) items to core sound is = (core, sound, is)
 collected (Err short) items to core sound is = tt

@@ -11,18 +11,18 @@ use Rattle.apd_ctrl.specs.declared.parser.Refusal.TheVariants.{Unknown, Fail}
 use Rattle.apd_mlme.specs.Happening.{Happening}
 
 -- there was a core by whose configurations a name, or none, finds the interface of this BSSID, or finds none
-abbrev pub IsFoundBySome : Option (List ℕ) → Option (Bssid × Bool) → Type 0
-IsFoundBySome name found =
+abbrev pub IsFoundBySomeCore : Option (List ℕ) → Option (Bssid × Bool) → Type 0
+IsFoundBySomeCore name found =
     (core : CoreState) × (option_map (λ it. it.0) found ≡ option_map (λ conf. conf.bssid) (conf_meant core.confs name))
 
 -- bytes become this there, with their tag
-abbrev pub IsPlacedAtSome : ℕ → List ℕ → Result Placing Refusal → Type 0
-IsPlacedAtSome tag bytes placed = IsPlaced IsFoundBySome tag bytes placed
+abbrev pub IsPlacedBySomeCore : ℕ → List ℕ → Result Placing Refusal → Type 0
+IsPlacedBySomeCore tag bytes placed = IsPlaced IsFoundBySomeCore tag bytes placed
 
 -- a query is answered; an order has no answer yet; and bytes whose word is not known are refused so. Any other failure
 -- may have other reasons besides
 abbrev pub IsAnswerTo : ℕ → List ℕ → Result (Option Answer) Refusal → Type 0
-IsAnswerTo tag bytes (Ok (Some answer)) = IsPlacedAtSome tag bytes (Ok (Asks answer.query))
-IsAnswerTo tag bytes (Ok None) = (order : Happening) × IsPlacedAtSome tag bytes (Ok (Does order))
-IsAnswerTo tag bytes (Err Unknown) = IsPlacedAtSome tag bytes (Err Unknown)
+IsAnswerTo tag bytes (Ok (Some answer)) = IsPlacedBySomeCore tag bytes (Ok (Asks answer.query))
+IsAnswerTo tag bytes (Ok None) = (order : Happening) × IsPlacedBySomeCore tag bytes (Ok (Does order))
+IsAnswerTo tag bytes (Err Unknown) = IsPlacedBySomeCore tag bytes (Err Unknown)
 IsAnswerTo tag bytes (Err Fail) = Unit {0}

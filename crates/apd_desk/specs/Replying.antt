@@ -17,12 +17,12 @@ text_of Unknown = codes "UNKNOWN COMMAND\n"
 text_of Fail = codes "FAIL\n"
 
 -- there was a core that gave this answer to this query: from its table of settled entries
-abbrev pub IsAnswerOfSome : Answer → Type 0
-IsAnswerOfSome answer = (core : CoreState) × (answer ≡ answer_to_query core answer.query)
+abbrev pub IsAnswerOfSomeCore : Answer → Type 0
+IsAnswerOfSomeCore answer = (core : CoreState) × (answer ≡ answer_to_query core answer.query)
 
 -- there was a core of which these were the outs that waited for a recipient, their entries settled
-abbrev pub AreReadyOfSome : Recipient → List Out → Type 0
-AreReadyOfSome to outs = (core : CoreState) × IsCore core × (outs ≡ ready_for to core)
+abbrev pub AreReadyInSomeCore : Recipient → List Out → Type 0
+AreReadyInSomeCore to outs = (core : CoreState) × IsCore core × (outs ≡ ready_for to core)
 
 -- some of the texts among these outs, in order, each once under its tag: the port lost the others
 abbrev pub AreSomeOf : List Reply → List Out → Type 0
@@ -37,11 +37,11 @@ AreSomeOf replies (Frame frame ∷ outs) = AreSomeOf replies outs
 abbrev pub IsAtOnce : List Reply → Type 0
 IsAtOnce replies =
     ((tag : ℕ) × (why : Refusal) × (replies ≡ (tag, text_of why) ∷ []))
-    ⊎ ((tag : ℕ) × (answer : Answer) × IsAnswerOfSome answer × (replies ≡ (tag, answer.text) ∷ []))
+    ⊎ ((tag : ℕ) × (answer : Answer) × IsAnswerOfSomeCore answer × (replies ≡ (tag, answer.text) ∷ []))
 
 -- what is replied to orders: what was ready for control, so of settled entries alone
 abbrev pub AreSettled : List Reply → Type 0
-AreSettled replies = (outs : List Out) × AreReadyOfSome Control outs × AreSomeOf replies outs
+AreSettled replies = (outs : List Out) × AreReadyInSomeCore Control outs × AreSomeOf replies outs
 
 abbrev pub IsEither : List Reply → Type 0
 IsEither replies = IsAtOnce replies ⊎ AreSettled replies

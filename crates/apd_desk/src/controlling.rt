@@ -1,7 +1,7 @@
 //! The worker of the control port.
 ghost use Rattle.std.specs.Prelude.{◌≡◌, ◌∷◌, [], IfOk, IfSome};
-ghost use Rattle.apd_desk.specs.Replying.{AreReplied, AreSettled, HasReplied, IsAnswerOfSome, IsAtOnce, IsEither};
-ghost use Rattle.apd_desk.specs.Finding.{IsAnswerTo, IsFoundBySome};
+ghost use Rattle.apd_desk.specs.Replying.{AreReplied, AreSettled, HasReplied, IsAnswerOfSomeCore, IsAtOnce, IsEither};
+ghost use Rattle.apd_desk.specs.Finding.{IsAnswerTo, IsFoundBySomeCore};
 ghost use Rattle.apd_desk.specs.SeatProgress.{IsLater};
 
 use crate::clock::Clock;
@@ -32,7 +32,7 @@ struct SharedInterfaces<'a, L: Ledger, W> {
 
 // Others may call before and after: what is known is that there was a core by whose configurations one is found.
 impl<L: Ledger, W: Wait> Interfaces for SharedInterfaces<'_, L, W> {
-    ghost finds = { λ _ name found. IsFoundBySome name found };
+    ghost finds = { λ _ name found. IsFoundBySomeCore name found };
 
     fn interface(&self, name: Option<&[u8]>) -> Option<(Bssid, bool)> {
         self.shared.interface(self.rt, name)
@@ -53,7 +53,7 @@ fn carry_out<L: Ledger, W: Wait, C: Clock, G: Gate>(
     gate: &G,
 ) -> Result<Option<Answer>, Refusal>
     ensures later { IsLater seat.old seat.new }
-    ensures answered { IfOk result (λ got. IfSome got IsAnswerOfSome) }
+    ensures answered { IfOk result (λ got. IfSome got IsAnswerOfSomeCore) }
     ensures placed { IsAnswerTo tag bytes.now result }
 {
     match place(&SharedInterfaces { rt, shared }, tag, bytes) {
@@ -101,7 +101,7 @@ fn serve_command<L: Ledger, W: Wait, P: Port, C: Clock, G: Gate>(
 
 // Replies to a query.
 fn answer_query<P: Port>(port: &mut P, tag: u64, answer: &Answer)
-    ensures { IsAnswerOfSome answer.now → HasReplied IsAtOnce (P.replied port.old) (P.replied port.new) }
+    ensures { IsAnswerOfSomeCore answer.now → HasReplied IsAtOnce (P.replied port.old) (P.replied port.new) }
 {
     let _sent = port.reply(tag, answer.text());
 }

@@ -7,8 +7,8 @@ ghost use Rattle.apd_steps.specs.Handing.{HandsTo};
 ghost use Rattle.apd_steps.specs.Calls.{AskTells, CollectTells, FailTells, PublishTells, SubmitTells, TakeTells, exactly, outs_in, refused_by};
 ghost use Rattle.apd_desk.specs.Asking.{by_seat};
 ghost use Rattle.apd_desk.specs.Counted.{entries_in, entries_of_seats};
-ghost use Rattle.apd_desk.specs.Finding.{IsFoundBySome};
-ghost use Rattle.apd_desk.specs.Replying.{AreReadyOfSome, IsAnswerOfSome};
+ghost use Rattle.apd_desk.specs.Finding.{IsFoundBySomeCore};
+ghost use Rattle.apd_desk.specs.Replying.{AreReadyInSomeCore, IsAnswerOfSomeCore};
 ghost use Rattle.apd_desk.specs.TicketOwner.{IsOwn};
 ghost use Rattle.apd_desk.specs.SeatProgress.{IsBehind, IsLater};
 
@@ -132,7 +132,7 @@ impl<L: Ledger> Shared<L> {
     pub fn ask(&self, rt: &impl Wait, seat: &mut Seat<L>, query: Query) -> Result<Answer, AskFault>
         ensures tells { by_seat (AskTells query result) seat.old seat.new }
         ensures own { IfOk result (λ answer. answer.query ≡ query) }
-        ensures told { IfOk result IsAnswerOfSome }
+        ensures told { IfOk result IsAnswerOfSomeCore }
         ensures seen { IfOk result (λ answer. (answer.number ≡ seat.new.seen) × (seat.old.seen ≤ seat.new.seen)) }
         ensures behind { (number : ℕ) → result ≡ Err (AskFault.Behind number) → IsBehind number seat.old.seen }
         ensures err { OnErr result (seat.new.seen ≡ seat.old.seen) }
@@ -150,7 +150,7 @@ impl<L: Ledger> Shared<L> {
         to: Recipient,
     ) -> Result<Vec<Out>, AllocError>
         ensures tells { by_seat (CollectTells to (outs_in (λ outs. outs.items) result)) seat.old seat.new }
-        ensures outs { IfOk result (λ outs. AreReadyOfSome to outs.items) }
+        ensures outs { IfOk result (λ outs. AreReadyInSomeCore to outs.items) }
         ensures never_back { seat.old.seen ≤ seat.new.seen }
         ensures err { OnErr result (seat.new.seen ≡ seat.old.seen) }
         ensures count { seat.new.count ≡ seat.old.count }
@@ -227,7 +227,7 @@ impl<L: Ledger> Shared<L> {
     // The BSSID of the interface that a command names, or else of the first one, by the configurations of some core,
     // and whether its radio is up. What is noted of that is said where the lock is held.
     pub(crate) fn interface(&self, rt: &impl Wait, name: Option<&[u8]>) -> Option<(Bssid, bool)>
-        ensures { IsFoundBySome (option_copied name.entry) result }
+        ensures { IsFoundBySomeCore (option_copied name.entry) result }
     {
         let locked = self.locked.lock(rt);
         let bssid = locked.interface(name)?;

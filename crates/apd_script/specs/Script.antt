@@ -92,13 +92,13 @@ module _ {D R : Type 0} (disk : DiskModel D) (radio : RadioModel R) where
   IsProperAt s = IsProper disk (durable_of s.world)
 
   -- nothing changes but the world
-  abbrev pub OnlyWorld : Runner D R → Runner D R → Type 0
-  OnlyWorld old new = new ≡ record old { world = new.world }
+  abbrev pub OnlyWorldChanges : Runner D R → Runner D R → Type 0
+  OnlyWorldChanges old new = new ≡ record old { world = new.world }
 
   -- this step was made, and told so
   pub record Makes (made : Step) (told : Told) (old new : Runner D R) : Type 0 where
     pub safely : AreSafelyMade disk radio (made ∷ []) (told ∷ []) old.world new.world
-    pub only : OnlyWorld old new
+    pub only : OnlyWorldChanges old new
 
   -- one was made, and did not lack memory
   pub record IsMade (made : Step) (old new : Runner D R) : Type 0 where
@@ -144,20 +144,20 @@ module _ {D R : Type 0} (disk : DiskModel D) (radio : RadioModel R) where
   pub record HandsOut (old new : Runner D R) : Type 0 where
     pub answers : List (Recipient × Told)
     pub handed : IsHandedOut disk radio [] answers old.world new.world
-    pub only : OnlyWorld old new
+    pub only : OnlyWorldChanges old new
 
   -- all is committed, and handed out: where no refusal was met
   pub record Flushes (old new : Runner D R) : Type 0 where
     pub none : old.refusal ≡ None
     pub answers : List (Recipient × Told)
     pub flushed : IsFlushed disk radio [] answers old.world new.world
-    pub only : OnlyWorld old new
+    pub only : OnlyWorldChanges old new
 
   -- the interfaces are started
   pub record Starts (old new : Runner D R) : Type 0 where
     pub answers : List (Recipient × Told)
     pub started : IsStarted disk radio answers old.world new.world
-    pub only : OnlyWorld old new
+    pub only : OnlyWorldChanges old new
 
   -- A world begun at a moment from what a device reads, of these configurations: its table is the state that the device shows, and it
   -- stands for the history that begins there; its slots, one for each interface, have resumed by that table. It is proper, and a stop until

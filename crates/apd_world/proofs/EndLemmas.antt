@@ -5,7 +5,7 @@ use Rattle.std.specs.Option.{unwrap_or}
 use Rattle.std.specs.Prelude.{IfErr, IsErrAnd, OnErr, OnOk, replicate}
 use Rattle.std.proofs.lemmas.List.Elements.{All-cons, All-nil}
 use Rattle.std.proofs.lemmas.Result.{IfErr-weaker}
-use Rattle.apd_world.proofs.Words.{AreMadeInTurn, AreSafelyMade, AreSettled, Call, Called, IsRoundAnswer, Commit, DiskModel, Done, DurableCore, Ends, GoesQuietly, HasEnded, HasFailedCore, HasMetNoRefusal, HasNoBatch, HasNoCall, HasNoReceipt, Idle, IsAtRest, IsEnd, IsInStep, IsAtWorstShort, IsNoRefusal, IsRound, IsWhole, Loaded, NoMemory, Nothing, Publish, Published, RadioModel, Step, StoreFault, Take, Tells, Told, World, WorldFault, answer_of, durable_of, flusher_of, phase_of, round, commit_of, waiting_receipt}
+use Rattle.apd_world.proofs.Words.{AreMadeInTurn, AreSafelyMade, AreSettled, Call, Called, IsRoundAnswer, Commit, DiskModel, Done, DurableCore, Ends, GoesQuietly, HasEnded, HasFailedCore, HasMetNoRefusal, HasNoBatch, HasNoCall, HasNoReceipt, Idle, IsAtRest, IsEnd, IsInStep, IsNoOtherRefusal, IsNoRefusal, IsRound, IsWhole, Loaded, NoMemory, Nothing, Publish, Published, RadioModel, Step, StoreFault, Take, Tells, Told, World, WorldFault, answer_of, durable_of, flusher_of, phase_of, round, commit_of, waiting_receipt}
 use Rattle.apd_store.specs.declared.fault.StoreFault.TheVariants as store_fault
 use Rattle.apd_core.specs.declared.publish_fault.PublishFault.TheVariants as publish_fault
 use Rattle.apd_world.specs.declared.fault.WorldFault.TheVariants as world_fault
@@ -47,7 +47,7 @@ module _ {D R : Type 0} (disk : DiskModel D) (radio : RadioModel R) where
   abbrev IsShort : DurableCore D → Commit → Type 0
   IsShort w answer = (HasNoCall w × HasNoReceipt w) ⊎ (answer ≡ commit.NoMemory)
 
-  publish_short : (t : Told) (d e : DurableCore D) → Tells Publish t d e → IsShort d (unwrap_or (commit_of t) commit.Nothing) → IsAtWorstShort t
+  publish_short : (t : Told) (d e : DurableCore D) → Tells Publish t d e → IsShort d (unwrap_or (commit_of t) commit.Nothing) → IsNoOtherRefusal t
   publish_short (Published (Ok x)) d e h way = inl tt
   publish_short (Published (Err publish_fault.NoMemory)) d e h way = inr refl
   publish_short (Published (Err publish_fault.Foreign)) d e h way = ⊎_elim
@@ -56,24 +56,24 @@ module _ {D R : Type 0} (disk : DiskModel D) (radio : RadioModel R) where
   publish_short Nothing d e h way = inl tt
   publish_short t d e h way = absurd h
 
-  call_short : (t : Told) (rest : Commit) (d e : DurableCore D) → Tells Call t d e → IsShort d (unwrap_or (commit_of t) rest) → IsAtWorstShort t × IsShort e rest
+  call_short : (t : Told) (rest : Commit) (d e : DurableCore D) → Tells Call t d e → IsShort d (unwrap_or (commit_of t) rest) → IsNoOtherRefusal t × IsShort e rest
   call_short (Called (Ok x)) rest d e h way = (inl tt, ⊎_elim (λ none. no_call_left (phase_of (flusher_of d)) none.0 h.some_call) (λ is. inr is) way)
   call_short (Called (Err fault)) rest d e h way =
       ⊎_elim (λ none. no_call_left (phase_of (flusher_of d)) none.0 h.some_call) (λ is. absurd (let no : commit.Refused fault ≡ commit.NoMemory = is in cc)) way
   call_short Nothing rest d e h way = (inl tt, subst (λ w. IsShort w rest) (sym h.1) way)
   call_short t rest d e h way = absurd h
 
-  calls_short : (n : ℕ) (ts : List Told) (a b : World D R) → AreMadeInTurn disk radio (replicate n Call ++ Publish ∷ []) ts a b → IsShort (durable_of a) (answer_of ts) → All IsAtWorstShort ts
+  calls_short : (n : ℕ) (ts : List Told) (a b : World D R) → AreMadeInTurn disk radio (replicate n Call ++ Publish ∷ []) ts a b → IsShort (durable_of a) (answer_of ts) → All IsNoOtherRefusal ts
   calls_short zero (t ∷ []) a b h way =
-      All-cons IsAtWorstShort t [] (publish_short t (durable_of a) (durable_of h.0) (subst (λ z. Tells Publish z (durable_of a) (durable_of h.0)) (sym h.1.joins.0) h.1.durable.tells) way) (All-nil IsAtWorstShort)
+      All-cons IsNoOtherRefusal t [] (publish_short t (durable_of a) (durable_of h.0) (subst (λ z. Tells Publish z (durable_of a) (durable_of h.0)) (sym h.1.joins.0) h.1.durable.tells) way) (All-nil IsNoOtherRefusal)
   calls_short (suc n) (t ∷ ts) a b h way =
       let one = call_short t (answer_of ts) (durable_of a) (durable_of h.0) (subst (λ z. Tells Call z (durable_of a) (durable_of h.0)) (sym h.1.joins.0) h.1.durable.tells) way in
-      All-cons IsAtWorstShort t ts one.0 (calls_short n ts h.0 b h.3 one.1)
+      All-cons IsNoOtherRefusal t ts one.0 (calls_short n ts h.0 b h.3 one.1)
   calls_short zero (t ∷ ts) a b h way = absurd h.3
   calls_short n ts a b h way = absurd h
 
   -- a core that can give a batch has none in flight, so no call and no receipt is left
-  take_short : (t : Told) (rest : Commit) (d e : DurableCore D) → Tells Take t d e → IsWhole disk d → unwrap_or (commit_of t) rest ≡ commit.NoMemory → IsAtWorstShort t × IsShort e rest
+  take_short : (t : Told) (rest : Commit) (d e : DurableCore D) → Tells Take t d e → IsWhole disk d → unwrap_or (commit_of t) rest ≡ commit.NoMemory → IsNoOtherRefusal t × IsShort e rest
   take_short (Loaded (Ok x)) rest d e h whole is = (inl tt, inr is)
   take_short (Loaded (Err fault)) rest d e h whole is = absurd (let no : commit.Refused fault ≡ commit.NoMemory = is in cc)
   take_short Nothing rest d e h whole is = (inl tt, inr is)
@@ -82,10 +82,10 @@ module _ {D R : Type 0} (disk : DiskModel D) (radio : RadioModel R) where
       (inl tt, subst (λ w. IsShort w rest) (sym h.1) (inl (inl between.idle, (between.receipt, λ done. let no : Idle ≡ Done = sym between.idle ∙ done in cc))))
   take_short t rest d e h whole is = absurd h
 
-  round_short : (n : ℕ) (ts : List Told) (a b : World D R) → AreMadeInTurn disk radio (round n) ts a b → IsWhole disk (durable_of a) → commit.NoMemory ≡ answer_of ts → All IsAtWorstShort ts
+  round_short : (n : ℕ) (ts : List Told) (a b : World D R) → AreMadeInTurn disk radio (round n) ts a b → IsWhole disk (durable_of a) → commit.NoMemory ≡ answer_of ts → All IsNoOtherRefusal ts
   round_short n (t ∷ ts) a b h whole is_short =
       let one = take_short t (answer_of ts) (durable_of a) (durable_of h.0) (subst (λ z. Tells Take z (durable_of a) (durable_of h.0)) (sym h.1.joins.0) h.1.durable.tells) whole (sym is_short) in
-      All-cons IsAtWorstShort t ts one.0 (calls_short n ts h.0 b h.3 one.1)
+      All-cons IsNoOtherRefusal t ts one.0 (calls_short n ts h.0 b h.3 one.1)
   round_short n ts a b h whole is_short = absurd h
 
 module _ {D R : Type 0} (disk : DiskModel D) (radio : RadioModel R) where

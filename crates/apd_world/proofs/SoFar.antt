@@ -4,7 +4,7 @@ use Rattle.std.specs.List.{AllByRecursion, AllZip}
 use Rattle.std.proofs.Math.Seq.{drop-cons, map-set_same, take-suc, take-suc-set}
 use Rattle.std.proofs.lemmas.List.{drop-set-lt, take_all}
 use Rattle.std.proofs.lemmas.List.Elements.{AllZip-push}
-use Rattle.apd_world.proofs.Words.{AreOfSame, Slot, bssid_of}
+use Rattle.apd_world.proofs.Words.{HaveSameBssids, Slot, bssid_of}
 
 pub zip_all : {A : Type 0} (P : A → Type 0) (xs ys : List A) → AllZip (λ x y. P y) xs ys → AllByRecursion P ys
 zip_all P [] [] h = tt
@@ -15,7 +15,7 @@ zip_all P (x ∷ xs) [] h = absurd h
 module _ {R : Type 0} (Change : Slot R → Slot R → Type 0) where
   -- so many have changed, and the others are as they were
   pub record AreSoFar (i : ℕ) (old now : List (Slot R)) : Type 0 where
-    pub same : AreOfSame old now
+    pub same : HaveSameBssids old now
     pub many : length now ≡ length old
     pub changed : AllZip Change (take i old) (take i now)
     pub rest : drop i now ≡ drop i old
@@ -25,7 +25,7 @@ module _ {R : Type 0} (Change : Slot R → Slot R → Type 0) where
 
   -- the next
   module _ (i : ℕ) (old now : List (Slot R)) (before after : Slot R) (is : before ≡ get_or now i before) (own : bssid_of after ≡ bssid_of before) (h : AreSoFar i old now) where
-    pub still_same : AreOfSame old (set now i after)
+    pub still_same : HaveSameBssids old (set now i after)
     still_same = map-set_same bssid_of now i after before (own ∙ ap bssid_of is) ∙ h.same
 
     module _ (lt : i < length now) where

@@ -7,7 +7,7 @@ pub use Rattle.apd_flusher.specs.Handing.{IsLoadGiven, IsNextBatch, IsTurnMade, 
 pub use Rattle.apd_flusher.specs.declared.phase.Phase.TheVariants.{Busy, Done, Failed, Idle}
 pub use Rattle.apd_world.specs.Applying.{AppliesFirst, IsApplied}
 pub use Rattle.apd_world.specs.CoreRun.{AreHeldFor, AreUnsettled, Goes, GoesQuietly, Settles}
-pub use Rattle.apd_world.specs.Ending.{Ends, HasEnded, HasFailedCore, HasGoneOn, HasMetNoRefusal, IsEnd, IsAtWorstShort, IsNoRefusal}
+pub use Rattle.apd_world.specs.Ending.{Ends, HasEnded, HasFailedCore, HasGoneOn, HasMetNoRefusal, IsEnd, IsNoOtherRefusal, IsNoRefusal}
 pub use Rattle.apd_world.specs.Starting.{IsAtRest, IsFlushed, rounds}
 pub use Rattle.apd_world.specs.Failing.{IsFailed}
 pub use Rattle.apd_world.specs.Following.{AreExact, AreFollowing}
@@ -16,7 +16,7 @@ pub use Rattle.apd_world.specs.Outside.{device_of, flusher_of}
 pub use Rattle.apd_world.specs.Proper.{IsProper, IsSafe, IsSafeAtBoth, IsStepMade, IsWhole}
 pub use Rattle.apd_world.specs.Queueing.{AreQueued, QueuesReady}
 pub use Rattle.apd_world.specs.Replacing.{IsReplaced, IsReplacedAt, RefusesRadio, Replaces}
-pub use Rattle.apd_world.specs.Resumed.{AreHandedBack, AreLeft, AreOfSame, AreResumed, EndsAtSlot, HasNotResumed, IsResumed}
+pub use Rattle.apd_world.specs.Resumed.{AreHandedBack, AreLeft, AreResumed, EndsAtSlot, HasNotResumed, HaveSameBssids, IsResumed}
 pub use Rattle.apd_world.specs.Round.{IsRoundAnswer, Commits, HasNoChangesNext, HasRoomForNext, IsRound, answer_of, round, commit_of}
 pub use Rattle.apd_world.specs.Run.{IsStep}
 pub use Rattle.apd_world.specs.SafelyMade.{AreMadeInTurn, AreSafelyMade, LeadsSince}

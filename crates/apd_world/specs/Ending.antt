@@ -20,9 +20,9 @@ IsNoRefusal (Called (Err fault)) = ⊥
 IsNoRefusal (Published (Err fault)) = ⊥
 IsNoRefusal told = Unit {0}
 
--- but maybe a receipt, for want of memory
-abbrev pub IsAtWorstShort : Told → Type 0
-IsAtWorstShort told = IsNoRefusal told ⊎ (told ≡ Published (Err publish_fault.NoMemory))
+-- nor anything else, but maybe the core a receipt for want of memory
+abbrev pub IsNoOtherRefusal : Told → Type 0
+IsNoOtherRefusal told = IsNoRefusal told ⊎ (told ≡ Published (Err publish_fault.NoMemory))
 
 module _ {D R : Type 0} (disk : DiskModel D) (radio : RadioModel R) where
   -- Some steps were made.
@@ -74,7 +74,7 @@ module _ {D R : Type 0} (disk : DiskModel D) (radio : RadioModel R) where
   -- of memory.
   pub record IsShortRound (last new : World D R) : Type 0 where
     pub round_is : IsRound disk radio commit.NoMemory last new
-    pub none : IsWhole disk (durable_of last) → All IsAtWorstShort round_is.tolds
+    pub none : IsWhole disk (durable_of last) → All IsNoOtherRefusal round_is.tolds
 
   -- Memory ran out: some steps were made, and none told a refusal; then maybe a last round, which came to that.
   pub record HasRunShort (old new : World D R) : Type 0 where

@@ -18,8 +18,8 @@ abbrev pub AreResumed : {R : Type 0} → RadioModel R → State → List (Slot R
 AreResumed radio s slots = AllByRecursion (IsResumed radio s) slots
 
 -- the same BSSIDs, in the same order
-abbrev pub AreOfSame : {R : Type 0} → List (Slot R) → List (Slot R) → Type 0
-AreOfSame old new = map bssid_of new ≡ map bssid_of old
+abbrev pub HaveSameBssids : {R : Type 0} → List (Slot R) → List (Slot R) → Type 0
+HaveSameBssids old new = map bssid_of new ≡ map bssid_of old
 
 -- a world's slots have resumed by its table, from these; they follow it, and no out waits
 pub record HasResumed {D R : Type 0} (radio : RadioModel R) (slots : List (Slot R)) (w : World D R) : Type 0 where
@@ -27,7 +27,7 @@ pub record HasResumed {D R : Type 0} (radio : RadioModel R) (slots : List (Slot 
   pub exact : AreExact radio (slots_of w)
   pub following : AreFollowing w
   pub queues : (b : Bssid) → queue_of w b ≡ []
-  pub same : AreOfSame slots (slots_of w)
+  pub same : HaveSameBssids slots (slots_of w)
 
 -- The slot of a BSSID has not resumed by the table, for this reason, and is down; those before it have, and those behind
 -- it are as they were.
@@ -62,4 +62,4 @@ pub record AreHandedBack {D R : Type 0} (radio : RadioModel R) (store : Store D)
     (device : D) (left : List (Slot R)) (fault : WorldFault) : Type 0 where
   pub device_is : device ≡ store_device store
   pub slots_are : AreLeft radio s fault slots left
-  pub same : AreOfSame slots left
+  pub same : HaveSameBssids slots left

@@ -3,7 +3,7 @@ ghost use Rattle.std.specs.Prelude.{◌≡◌, ◌≢◌, ◌⊎◌, IfOk, IfErr
 ghost use Rattle.apd_base.specs.declared.address.Bssid.{Bssid as Address};
 ghost use Rattle.apd_slot.specs.declared.slot.SlotFault.{SlotFault as Fault};
 ghost use Rattle.apd_world.specs.BegunAnew.{IsBegunAnew, IsBegunWith, IsNotBegunAnew};
-ghost use Rattle.apd_world.specs.Resumed.{AreHandedBack, AreOfSame, AreResumed, EndsAtSlot, HasNotResumed, HasResumed};
+ghost use Rattle.apd_world.specs.Resumed.{AreHandedBack, AreResumed, EndsAtSlot, HasNotResumed, HasResumed, HaveSameBssids};
 ghost use Rattle.apd_world.specs.StandsFor.{BeginsAt};
 ghost use Rattle.apd_world.specs.WorldParts.{durable_of};
 
@@ -28,7 +28,7 @@ fn resume_all<R: Radio>(
     slots: &mut [Slot<R>],
 ) -> Result<(), (Bssid, SlotFault)>
     ensures ok { OnOk result (AreResumed R.model table.now slots.new) }
-    ensures same { AreOfSame slots.old slots.new }
+    ensures same { HaveSameBssids slots.old slots.new }
     ensures err { IfErr result (λ e. HasNotResumed R.model table.now e.0 e.1 slots.old slots.new) }
 {
     for slot in slots.iter_mut() {
@@ -108,7 +108,7 @@ pub fn restart<D: Disk, R: Radio>(
         × EndsAtSlot D.model R.model device e.0 b fault slots.items e.1.items)) }
     ensures still_slots { IfErr result (λ e. ((b : Address) (fault : Fault) → e.2 ≢ WorldFault.Slot b fault)
         → e.1.items ≡ slots.items) }
-    ensures slots_err { IfErr result (λ e. AreOfSame slots.items e.1.items) }
+    ensures slots_err { IfErr result (λ e. HaveSameBssids slots.items e.1.items) }
 {
     an_image_shows_one_state();
     match recover(alloc, device) {

@@ -2,10 +2,10 @@ use Rattle.std.proofs.Common.{ℕ, List, Err}
 use Rattle.apd_ctrl.specs.declared.parser.Refusal.{Refusal}
 use Rattle.apd_ctrl.specs.declared.parser.Refusal.TheVariants.{Unknown, Fail}
 use Rattle.apd_mlme.specs.Happening.{happening}
-use Rattle.apd_desk.specs.Finding.{IsAnswerTo, IsPlacedAtSome}
+use Rattle.apd_desk.specs.Finding.{IsAnswerTo, IsPlacedBySomeCore}
 use Rattle.apd_desk.proofs.controlling.carry_out.Goals as goal
 
-refused_so : (tag : ℕ) (bytes : List ℕ) (why : Refusal) → IsPlacedAtSome tag bytes (Err why) → IsAnswerTo tag bytes (Err why)
+refused_so : (tag : ℕ) (bytes : List ℕ) (why : Refusal) → IsPlacedBySomeCore tag bytes (Err why) → IsAnswerTo tag bytes (Err why)
 refused_so tag bytes Unknown placed = placed
 refused_so tag bytes Fail placed = tt
 

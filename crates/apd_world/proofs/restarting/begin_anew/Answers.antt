@@ -1,6 +1,6 @@
 use Rattle.std.proofs.Common.{◌≡◌, length, sym, ap, subst, ◌∙◌, arith, rules}
 use Rattle.apd_core.proofs.Queues.{whole}
-use Rattle.apd_world.proofs.Words.{AreExact, AreOfSame, AreResumed, CoreState, HasNotResumed}
+use Rattle.apd_world.proofs.Words.{AreExact, AreResumed, CoreState, HasNotResumed, HaveSameBssids}
 use Rattle.apd_flusher.specs.Outside as flusher
 use Rattle.apd_store.specs.Outside.{store_device}
 use Rattle.apd_world.proofs.HistoryBegins.{begins_at}
@@ -60,6 +60,6 @@ returns-in-Err-resume_all-clause-none g c =
       device_is = c.into_device.ensures ∙ ap flusher.flusher_device c.into_parts-flusher.ensures.flusher
           ∙ ap store_device c.in-Ok.ensures.begun.over;
       slots_are = subst (HasNotResumed g.R.Radio.model c.args.table bssid fault c.args.slots.items) (sym are) failed;
-      same = subst (AreOfSame c.args.slots.items) (sym are)
-          (subst (λ zs. AreOfSame zs xs) c.as_mut_slice.ensures.value c.resume_all.ensures.same);
+      same = subst (HaveSameBssids c.args.slots.items) (sym are)
+          (subst (λ zs. HaveSameBssids zs xs) c.as_mut_slice.ensures.value c.resume_all.ensures.same);
     }
