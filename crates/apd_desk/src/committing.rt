@@ -3,7 +3,6 @@ ghost use Rattle.std.specs.Prelude.{◌≡◌, ◌≢◌, Option, None, Some, Ok
 ghost use Rattle.apd_flusher.specs.Handing.{Keeps};
 ghost use Rattle.apd_journal.specs.declared.batch.Batch.{Batch as GivenBatch};
 ghost use Rattle.apd_store.specs.declared.store.Receipt.{Receipt as GivenReceipt};
-ghost use Rattle.apd_steps.specs.Calls.{of_some_core};
 ghost use Rattle.apd_steps.specs.Run.{Call, IsRefusal, IsRun, Publish, Take};
 ghost use Rattle.apd_desk.specs.Ends.{EndsAs};
 ghost use Rattle.apd_desk.specs.Going.{HasGone};
@@ -14,13 +13,12 @@ use crate::gate::{Gate, Place};
 use crate::idle::{Idle, LOOKS, Progress};
 use crate::locked::Look;
 use crate::news::News;
-use crate::shared::Shared;
+use crate::shared::{Committed, Shared};
 use apd_core::PublishFault;
 use apd_disk::Disk;
 use apd_flusher::{Committer, Phase};
-use apd_journal::Batch;
 use apd_steps::Settles;
-use apd_store::{Receipt, StoreFault};
+use apd_store::StoreFault;
 use std::alloc::AllocError;
 use std::sync::Wait;
 use std::sync::ledger::Ledger;
@@ -37,30 +35,6 @@ pub(crate) trait Rests: Settles {
 
     /// The same, for the pause before something is tried again.
     fn pause(&self, seen: Look);
-}
-
-/// A shared core, for the worker that commits.
-#[derive(Drop)]
-pub(crate) struct Committed<'a, L: Ledger, W> {
-    rt: &'a W,
-    shared: &'a Shared<L>,
-}
-
-// Others may call before and after: what is known is that there was a core that went so.
-impl<L: Ledger, W: Wait> Settles for Committed<'_, L, W> {
-    ghost made = { of_some_core };
-
-    fn take(&mut self) -> Result<Option<Batch>, AllocError> {
-        self.shared.take(self.rt)
-    }
-
-    fn publish(&mut self, receipt: Receipt) -> Result<(), (Receipt, PublishFault)> {
-        self.shared.publish(self.rt, receipt)
-    }
-
-    fn fail(&mut self) {
-        self.shared.fail(self.rt);
-    }
 }
 
 impl<L: Ledger, W: Wait + Clock> Rests for Committed<'_, L, W> {

@@ -10,7 +10,7 @@ ghost use Rattle.apd_journal.specs.Half.{IsGroup};
 ghost use Rattle.apd_store.specs.Outside.{held_batch};
 ghost use Rattle.apd_slot.specs.Slots.{bssid_of};
 ghost use Rattle.apd_steps.specs.Handing.{HandsTo};
-ghost use Rattle.apd_steps.specs.Calls.{AskTells, CollectTells, FailTells, PublishTells, SubmitTells, TakeTells, exactly, outs_in, refused_by};
+ghost use Rattle.apd_steps.specs.Calls.{AskTells, CollectTells, SubmitTells, exactly, outs_in};
 ghost use Rattle.apd_desk.specs.Counted.{entries_in, entries_of_seats};
 ghost use Rattle.apd_desk.specs.RadioNotes.{is_for, is_noted_up};
 ghost use Rattle.apd_desk.specs.TicketOwner.{IsOwn};
@@ -218,38 +218,6 @@ impl<L: Ledger> Locked<L> {
         self.core.ready_count(to) > 0
     }
 
-    /// The core's `take`.
-    pub(crate) fn take(&mut self) -> Result<Option<Batch>, AllocError>
-        ensures tells { exactly (TakeTells result) self.old.core self.new.core }
-        ensures accepted { self.new.accepted ≡ self.old.accepted }
-        ensures given { self.new.given ≡ self.old.given }
-    {
-        let Locked { core, .. } = self;
-        Settles::take(core)
-    }
-
-    /// The core's `publish`.
-    pub(crate) fn publish(&mut self, receipt: Receipt) -> Result<(), (Receipt, PublishFault)>
-        ensures tells { exactly (PublishTells (refused_by result) receipt) self.old.core self.new.core }
-        ensures back { IfErr result (λ back. back.0 ≡ receipt) }
-        ensures accepted { self.new.accepted ≡ self.old.accepted }
-        ensures given { self.new.given ≡ self.old.given }
-    {
-        let Locked { core, .. } = self;
-        core.sound();
-        Settles::publish(core, receipt)
-    }
-
-    /// The core's `fail`.
-    pub(crate) fn fail(&mut self)
-        ensures tells { exactly FailTells self.old.core self.new.core }
-        ensures accepted { self.new.accepted ≡ self.old.accepted }
-        ensures given { self.new.given ≡ self.old.given }
-    {
-        let Locked { core, .. } = self;
-        Settles::fail(core);
-    }
-
     /// What a worker sees now.
     pub(crate) fn look(&self) -> Look
         ensures { result ≡ record {
@@ -326,6 +294,28 @@ impl<L: Ledger> Locked<L> {
         let mut all = merge_shares(spare, seats);
         book.audit(&mut all);
         Ok((core, accepted))
+    }
+}
+
+// Of the core all is known, and what was counted stays.
+impl<L: Ledger> Settles for Locked<L> {
+    ghost made = { λ call old new. exactly call old.core new.core
+        × (new.accepted ≡ old.accepted) × (new.given ≡ old.given) };
+
+    fn take(&mut self) -> Result<Option<Batch>, AllocError> {
+        let Locked { core, .. } = self;
+        Settles::take(core)
+    }
+
+    fn publish(&mut self, receipt: Receipt) -> Result<(), (Receipt, PublishFault)> {
+        let Locked { core, .. } = self;
+        core.sound();
+        Settles::publish(core, receipt)
+    }
+
+    fn fail(&mut self) {
+        let Locked { core, .. } = self;
+        Settles::fail(core);
     }
 }
 

@@ -1,10 +1,9 @@
 //! A core that threads share.
 ghost use Rattle.std.specs.Prelude.{◌≡◌, ◌+◌, ◌≤◌, ℕ, IfOk, IfErr, IfSome, OnErr};
 ghost use Rattle.std.specs.Option.{option_copied};
-ghost use Rattle.apd_core.specs.Core.{CoreState};
 ghost use Rattle.apd_slot.specs.Slots.{bssid_of};
 ghost use Rattle.apd_steps.specs.Handing.{HandsTo};
-ghost use Rattle.apd_steps.specs.Calls.{AskTells, CollectTells, FailTells, PublishTells, SubmitTells, TakeTells, exactly, outs_in, refused_by};
+ghost use Rattle.apd_steps.specs.Calls.{AskTells, CollectTells, SubmitTells, of_some_core, outs_in};
 ghost use Rattle.apd_desk.specs.Asking.{by_seat};
 ghost use Rattle.apd_desk.specs.Counted.{entries_in, entries_of_seats};
 ghost use Rattle.apd_desk.specs.Finding.{IsFoundBySomeCore};
@@ -24,6 +23,7 @@ use apd_journal::Batch;
 use apd_mlme::{Out, Recipient};
 use apd_radio::Radio;
 use apd_slot::Slot;
+use apd_steps::Settles;
 use apd_store::Receipt;
 use mio::Waker;
 use std::alloc::AllocError;
@@ -234,36 +234,6 @@ impl<L: Ledger> Shared<L> {
         Some((bssid, locked.is_noted_up(bssid)))
     }
 
-    // The core's `take`, of some core.
-    pub(crate) fn take(&self, rt: &impl Wait) -> Result<Option<Batch>, AllocError>
-        ensures { (core : CoreState) × (after : CoreState) × exactly (TakeTells result) core after }
-    {
-        self.locked.lock(rt).take()
-    }
-
-    // The core's `publish`, of some core. It wakes who waits for what is settled, and at their sockets those for whom
-    // outs are ready.
-    pub(crate) fn publish(
-        &self,
-        rt: &impl Wait,
-        receipt: Receipt,
-    ) -> Result<(), (Receipt, PublishFault)>
-        ensures tells { (core : CoreState) × (after : CoreState)
-            × exactly (PublishTells (refused_by result) receipt) core after }
-        ensures back { IfErr result (λ back. back.0 ≡ receipt) }
-    {
-        let mut locked = self.locked.lock(rt);
-        let answer = locked.publish(receipt);
-        self.board.post_settled(locked.look());
-        let ready = self.bells.ready_places(&locked);
-        drop(locked);
-        if answer.is_ok() {
-            self.conditions.tell(News::Settled);
-            self.bells.ring(ready);
-        }
-        answer
-    }
-
     // Keeps what wakes the worker of a recipient at its socket. Tells at which place, if there was one.
     pub(crate) fn keep_bell(&self, to: Recipient, waker: Waker) -> Option<usize> {
         self.bells.keep(to, waker)
@@ -283,13 +253,6 @@ impl<L: Ledger> Shared<L> {
     // It no longer sleeps.
     pub(crate) fn mark_awake(&self, place: usize) {
         self.bells.note_asleep(place, false);
-    }
-
-    // The core's `fail`, of some core.
-    pub(crate) fn fail(&self, rt: &impl Wait)
-        ensures { (core : CoreState) × (after : CoreState) × exactly FailTells core after }
-    {
-        self.locked.lock(rt).fail();
     }
 
     // What was posted last. Each word is read for itself, so there need not have been a moment at which all were so. It
@@ -327,5 +290,40 @@ impl<L: Ledger> Shared<L> {
     // The same, for the pause before something is tried again.
     pub(crate) fn pause<W: Wait + Clock>(&self, rt: &W, news: News, seen: Look) {
         self.wait_within(rt, news, seen, Duration::from_millis(PAUSE));
+    }
+}
+
+/// A shared core, for the worker that commits.
+#[derive(Drop)]
+pub(crate) struct Committed<'a, L: Ledger, W> {
+    pub(crate) rt: &'a W,
+    pub(crate) shared: &'a Shared<L>,
+}
+
+// Others may call before and after: what is known is that there was a core that went so.
+impl<L: Ledger, W: Wait> Settles for Committed<'_, L, W> {
+    ghost made = { of_some_core };
+
+    fn take(&mut self) -> Result<Option<Batch>, AllocError> {
+        self.shared.locked.lock(self.rt).take()
+    }
+
+    // It wakes who waits for what is settled, and at their sockets those for whom outs are ready.
+    fn publish(&mut self, receipt: Receipt) -> Result<(), (Receipt, PublishFault)> {
+        let shared = self.shared;
+        let mut locked = shared.locked.lock(self.rt);
+        let answer = locked.publish(receipt);
+        shared.board.post_settled(locked.look());
+        let ready = shared.bells.ready_places(&locked);
+        drop(locked);
+        if answer.is_ok() {
+            shared.conditions.tell(News::Settled);
+            shared.bells.ring(ready);
+        }
+        answer
+    }
+
+    fn fail(&mut self) {
+        self.shared.locked.lock(self.rt).fail();
     }
 }
