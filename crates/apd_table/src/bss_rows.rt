@@ -9,7 +9,7 @@ ghost use Rattle.apd_base.specs.State.{is_list_row_of};
 ghost use Rattle.apd_base.specs.declared.address.Addr.{Addr};
 ghost use Rattle.apd_base.specs.declared.limits.TheConstants.{MAX_STATIONS};
 ghost use Rattle.apd_base.specs.declared.station.Which.{Which};
-ghost use Rattle.apd_table.specs.for_proofs.BssRows.{no_bss, policy_of, cursor_of, members_of, with_bss, is_listed_in};
+ghost use Rattle.apd_table.specs.for_proofs.BssRows.{no_bss, parts_of, policy_of, cursor_of, members_of, with_bss, is_listed_in};
 ghost use Rattle.apd_table.specs.for_proofs.Members.{after_row};
 ghost use Rattle.apd_table.specs.Snapshot.{cursor_changes, list_changes, policy_changes};
 ghost use Rattle.apd_table.specs.declared.bss_rows.Bss.{Bss};
@@ -89,7 +89,8 @@ impl BssRows {
 
     /// The rows, in the order of their BSSIDs.
     pub fn rows(&self) -> &[(Bssid, Bss)]
-        ensures { list_map (λ row. row.0) result.now ≡ map.keys self.now.policies }
+        ensures keys { list_map (λ row. row.0) result.now ≡ map.keys self.now.policies }
+        ensures members { parts_of members_of result.now ≡ map.entries self.now.members }
     {
         &self.rows
     }

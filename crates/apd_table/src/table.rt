@@ -1,5 +1,5 @@
 //! A table, seen as the state of an access point.
-ghost use Rattle.std.specs.Prelude.{◌≡◌, ◌≢◌, ℕ, ◌<◌, ◌≤◌, ◌⊎◌, ◌↔◌, ◌&&◌, filter, length, map as list_map, OnOk, OnErr, IsOk, IfOk, IsSome, IfSome, IfNone, IsTrue, Some, None, Err};
+ghost use Rattle.std.specs.Prelude.{◌≡◌, ◌≢◌, ◌==◌, ℕ, ◌<◌, ◌≤◌, ◌⊎◌, ◌↔◌, ◌&&◌, not, filter, length, map as list_map, OnOk, OnErr, IsOk, IfOk, IsSome, IfSome, IfNone, IsTrue, Some, None, Err};
 ghost use Rattle.std.specs.List.{list_any, slice_get};
 ghost use Rattle.std.specs.Option.{is_some, option_copied, option_map};
 ghost use Rattle.std.specs.declared.cmp.Ordering.TheVariants.{Less};
@@ -511,12 +511,16 @@ impl Table {
         self.is_at_one_of(self.bss.rows(), bssid, addr)
     }
 
-    // Whether the station is associated at one of these BSSIDs, other than the one.
+    // Whether the station is associated at one of these BSSIDs, other than the one. Those without stations are
+    // passed over.
     fn is_at_one_of(&self, rows: &[(Bssid, Bss)], bssid: Bssid, addr: Addr) -> bool
-        ensures { result ≡ list_any (λ row. is_associated_apart bssid row.0 (station_at self.now row.0 addr)) rows.now }
+        ensures { result
+            ≡ list_any (λ row. not (row.1.members.count == 0)
+            && is_associated_apart bssid row.0 (station_at self.now row.0 addr)) rows.now }
     {
-        rows.iter()
-            .any(|row| self.is_associated_apart(row.0, bssid, addr))
+        rows.iter().any(|row| {
+            row.1.members.count != 0 && self.is_associated_apart(row.0, bssid, addr)
+        })
     }
 
     fn is_associated_apart(&self, other: Bssid, bssid: Bssid, addr: Addr) -> bool
