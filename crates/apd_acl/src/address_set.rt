@@ -1,7 +1,6 @@
 //! A set of addresses.
 ghost use Rattle.std.specs.Prelude.{◌≡◌, ◌≢◌, OnOk, OnErr, IsOk, IfOk, IfSome, IfNone, IsTrue};
 ghost use Rattle.std.specs.declared.cmp.Ordering.TheVariants.{Less};
-ghost use Rattle.std.specs.BTreeSet.{IsFromIterResult};
 ghost use Rattle.std.specs.FinMap as map;
 ghost use Rattle.apd_base.specs.Sets.{contains};
 ghost use Rattle.apd_base.specs.Addr.{addr_cmp};
@@ -36,12 +35,6 @@ impl Model for AddressSet {
     ghost invariant = { λ a. T (map.is_sorted addr_cmp (rows_of a.keys.keys)) };
 }
 
-fn copy_of(alloc: Global, keys: &BTreeSet<Addr>) -> Result<BTreeSet<Addr>, AllocError>
-    ensures { IfOk result (IsFromIterResult addr_cmp keys.now.keys) }
-{
-    keys.iter().copied().collect(alloc)
-}
-
 impl AddressSet {
     /// No address. It takes no memory.
     pub fn new(alloc: Global) -> AddressSet
@@ -57,7 +50,7 @@ impl AddressSet {
         ensures { IfOk result (λ t. t ≡ self.now) }
     {
         Ok(AddressSet {
-            keys: copy_of(alloc, &self.keys)?,
+            keys: self.keys.iter().copied().collect(alloc)?,
         })
     }
 
