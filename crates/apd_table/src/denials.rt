@@ -9,10 +9,9 @@ ghost use Rattle.apd_table.specs.Rows.{is_station_row_of};
 
 use crate::stations::Stations;
 use apd_acl::{Lists, policy};
-use apd_base::{AclMode, Addr, Bssid, Policy, Station, Which};
+use apd_base::{AclMode, Addr, Bssid, Policy, Which};
 use apd_record::Change;
 use std::alloc::{AllocError, Global};
-use std::collections::btree_map::Range;
 
 /// The addresses of all rows of the BSSID.
 pub fn addresses(alloc: Global, stations: &Stations, bssid: Bssid) -> Result<Vec<Addr>, AllocError>
@@ -99,21 +98,6 @@ pub fn policy_after(bssid: Bssid, policy: Policy, change: &Change) -> Policy
     }
 }
 
-// Whether one of some rows is denied once a change is made.
-fn denies_any_of(
-    rows: Range<'_, (Bssid, Addr), Station>,
-    bssid: Bssid,
-    lists: &Lists,
-    mode: AclMode,
-    change: &Change,
-) -> bool
-    ensures { result
-        ≡ list_any (λ row. is_address_denied_after lists.now mode bssid change.now row.0.1) rows.entry }
-{
-    let mut rows = rows;
-    rows.any(|row| is_denied_after(row.0.1, bssid, lists, mode, change))
-}
-
 /// Whether a row of the BSSID is denied once a change is made.
 pub fn denies_any_after(
     stations: &Stations,
@@ -124,26 +108,8 @@ pub fn denies_any_after(
 ) -> bool
     ensures { result ≡ list_any (is_denied_after lists.now mode bssid change.now) (map.entries stations.now) }
 {
-    denies_any_of(stations.of(bssid), bssid, lists, mode, change)
-}
-
-// The addresses of those rows that are denied once a change is made.
-fn denials_after_of(
-    alloc: Global,
-    rows: Range<'_, (Bssid, Addr), Station>,
-    bssid: Bssid,
-    lists: &Lists,
-    mode: AclMode,
-    change: &Change,
-) -> Result<Vec<Addr>, AllocError>
-    ensures { IfOk result
-        (λ v. v.items
-        ≡ list_map (λ row. row.0.1) (filter
-        (λ row. is_address_denied_after lists.now mode bssid change.now row.0.1) rows.entry)) }
-{
-    rows.filter(|row| is_denied_after(row.0.1, bssid, lists, mode, change))
-        .map(|row| row.0.1)
-        .collect(alloc)
+    let mut rows = stations.of(bssid);
+    rows.any(|row| is_denied_after(row.0.1, bssid, lists, mode, change))
 }
 
 /// The addresses of the rows of the BSSID that are denied once a change is made.
@@ -160,7 +126,10 @@ pub fn denials_after(
         ≡ list_map (λ row. row.0.1) (filter (is_denied_after lists.now mode bssid change.now)
         (map.entries stations.now))) }
 {
-    denials_after_of(alloc, stations.of(bssid), bssid, lists, mode, change)
+    let rows = stations.of(bssid);
+    rows.filter(|row| is_denied_after(row.0.1, bssid, lists, mode, change))
+        .map(|row| row.0.1)
+        .collect(alloc)
 }
 
 /// The address that a change adds to a list or takes out of one.
