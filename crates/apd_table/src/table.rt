@@ -1,5 +1,5 @@
 //! A table, seen as the state of an access point.
-ghost use Rattle.std.specs.Prelude.{◌≡◌, ◌≢◌, ◌==◌, ℕ, ◌<◌, ◌≤◌, ◌⊎◌, ◌↔◌, ◌&&◌, not, filter, length, map as list_map, OnOk, OnErr, IsOk, IfOk, IsSome, IfSome, IfNone, IsTrue, Some, None, Err};
+ghost use Rattle.std.specs.Prelude.{◌≡◌, ◌≢◌, ℕ, ◌<◌, ◌≤◌, ◌⊎◌, ◌↔◌, ◌&&◌, filter, length, map as list_map, OnOk, OnErr, IsOk, IfOk, IsSome, IfSome, IfNone, IsTrue, Some, None, Err};
 ghost use Rattle.std.specs.List.{list_any, slice_get};
 ghost use Rattle.std.specs.Option.{is_some, option_copied, option_map};
 ghost use Rattle.std.specs.declared.cmp.Ordering.TheVariants.{Less};
@@ -502,22 +502,14 @@ impl Table {
         is_associated(old) || !self.is_elsewhere(bssid, addr)
     }
 
-    // Whether the station is associated at another BSSID: one that has stations has a policy.
+    // Whether the station is associated at another BSSID: one that has stations has a policy. Those without
+    // stations are passed over.
     fn is_elsewhere(&self, bssid: Bssid, addr: Addr) -> bool
         ensures { result
             ≡ list_any (λ other. is_associated_apart bssid other
             (station_at self.now other addr)) (map.keys self.now.policies) }
     {
-        self.is_at_one_of(self.bss.rows(), bssid, addr)
-    }
-
-    // Whether the station is associated at one of these BSSIDs, other than the one. Those without stations are
-    // passed over.
-    fn is_at_one_of(&self, rows: &[(Bssid, Bss)], bssid: Bssid, addr: Addr) -> bool
-        ensures { result
-            ≡ list_any (λ row. not (row.1.members.count == 0)
-            && is_associated_apart bssid row.0 (station_at self.now row.0 addr)) rows.now }
-    {
+        let rows = self.bss.rows();
         rows.iter().any(|row| {
             row.1.members.count != 0 && self.is_associated_apart(row.0, bssid, addr)
         })
