@@ -1,6 +1,5 @@
 //! The station rows, in the order of (BSSID, address).
 ghost use Rattle.std.specs.Prelude.{◌≡◌, ◌≢◌, ◌<◌, ◌^◌, ◌++◌, Some, None, OnOk, OnErr, IsOk, IsSome, IfOk, IfSome, IfNone, filter, length};
-ghost use Rattle.std.specs.BTreeMap.{IsFromIterResult};
 ghost use Rattle.std.specs.Map.Iter.{deref_pair};
 ghost use Rattle.std.specs.Option.{option_map};
 ghost use Rattle.std.specs.declared.cmp.Ordering.TheVariants.{Less};
@@ -53,17 +52,6 @@ fn key_law(bssid: Bssid, addr: Addr)
     Change::Drop { bssid, addr }.range_law();
 }
 
-fn copy_of(
-    alloc: Global,
-    rows: &BTreeMap<(Bssid, Addr), Station>,
-) -> Result<BTreeMap<(Bssid, Addr), Station>, AllocError>
-    ensures { IfOk result (IsFromIterResult station_cmp rows.now.entries) }
-{
-    rows.iter()
-        .map(|(key, station)| (*key, *station))
-        .collect(alloc)
-}
-
 // The address and the station of a row.
 fn address_and_station(row: Option<(&(Bssid, Addr), &Station)>) -> Option<(Addr, Station)>
     ensures { result ≡ option_map address_and_station (option_map deref_pair row.entry) }
@@ -98,8 +86,9 @@ impl Stations {
     pub fn copy(&self, alloc: Global) -> Result<Stations, AllocError>
         ensures { IfOk result (λ t. t ≡ self.now) }
     {
+        let rows = self.rows.iter().map(|(key, station)| (*key, *station));
         Ok(Stations {
-            rows: copy_of(alloc, &self.rows)?,
+            rows: rows.collect(alloc)?,
         })
     }
 
