@@ -3,8 +3,8 @@ ghost use Rattle.std.specs.Prelude.{◌≡◌};
 ghost use Rattle.apd_program.specs.declared.fault.ProgramFault.TheVariants.{NoMemory};
 
 use crate::running::RunningFault;
-use apd_commands::CommandFault;
 use apd_site::OpenFault;
+use apd_subcommands::CommandFault;
 use std::alloc::AllocError;
 use thiserror::Error;
 

@@ -4,11 +4,11 @@ ghost use Rattle.apd_program.specs.declared.running.RunningFault.TheVariants.{No
 
 use crate::host::Host;
 use crate::timed::Timed;
-use apd_commands::warn_of_ssids;
 use apd_conf::ConfigurationFault;
 use apd_script::read_configurations;
 use apd_serve::{RunFault, run};
 use apd_site::Site;
+use apd_subcommands::warn_of_ssids;
 use clap::ArgMatches;
 use log::Log;
 use std::alloc::AllocError;

@@ -1,12 +1,12 @@
 //! What is told behind a fault's line: of `run`, why a file or a port was not had.
 use crate::fault::ProgramFault;
 use crate::running::RunningFault;
-use apd_commands::{names_of, tell_configurations, tell_more_of_command};
 use apd_conf::Conf;
-use apd_reasons::{More, PortUse, Purpose, tell_file, tell_ports};
+use apd_diagnosis::{More, PortUse, Purpose, tell_file, tell_ports};
 use apd_script::read_configurations;
 use apd_serve::RunFault;
 use apd_site::{Access, OpenFault, open_disk};
+use apd_subcommands::{names_of, tell_configurations, tell_more_of_command};
 use clap::ArgMatches;
 use std::alloc::AllocError;
 use std::fs::File;

@@ -71,7 +71,7 @@
 //! | `run` | `a_second_run_goes_on_where_the_first_ended`, `apd_serve_tests` |
 //! | `open_disk`, `file_or_fault` in it | `a_file_that_is_no_store_is_left_as_it_was`, `apd_serve_tests` |
 //! | `run_check` | `a_check_prints_a_line_for_each_bssid_rising`, `apd_script_tests` |
-//! | `run_upgrade` | `a_store_of_version_1_is_copied`, `apd_commands_tests` |
+//! | `run_upgrade` | `a_store_of_version_1_is_copied`, `apd_subcommands_tests` |
 //! | `new_store`, `run_on_store` | `lines_end_at_a_newline_alone_and_the_last_needs_none`, `apd_script_tests` |
 //! | `run_script` | `a_stop_takes_a_fresh_radio_from_the_front_for_each_slot`, `apd_script_tests` |
 //! | `write_out` | `driver_calls_are_printed_in_these_words`, `apd_script_tests` |

@@ -1,14 +1,10 @@
 use Rattle.std.proofs.Common.{ap}
 use Rattle.apd_disk.specs.SystemFile.{FileDisk}
-use Rattle.apd_commands.proofs.upgrading.upgrade_files.Goals as goal
+use Rattle.apd_subcommands.proofs.formatting.format_file.Goals as goal
 
 pub returns-in-Ok-clause-made : goal.returns-in-Ok-clause-made
 returns-in-Ok-clause-made g c = (
   c.knowing.result,
   ap (λ (d : FileDisk). d.known) c.knowing.ensures,
-  (
-    c.knowing-2.result,
-    ap (λ (d : FileDisk). d.known) c.knowing-2.ensures,
-    c.in-Ok.ensures.made,
-  ),
+  c.in-Ok.ensures.made,
 )

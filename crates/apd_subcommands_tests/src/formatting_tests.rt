@@ -1,10 +1,10 @@
 use crate::expect::{expect, read, remove, write};
 use crate::scripting_tests::make_old_store;
-use apd_commands::CommandFault;
 use apd_disk::FileDisk;
 use apd_maintenance::{FormatFault, run_format};
 use apd_site::{Access, open_disk};
 use apd_store::{StoreFault, recover};
+use apd_subcommands::CommandFault;
 use std::fs::{self, File};
 use std::process::Abort;
 use std::rt::Files;

@@ -1,6 +1,6 @@
 //! The subcommand that looks into a store.
 ghost use Rattle.std.specs.Prelude.{IfOk};
-ghost use Rattle.apd_commands.specs.Files.{OfFile};
+ghost use Rattle.apd_subcommands.specs.Files.{OfFile};
 ghost use Rattle.apd_disk.specs.FileModel.{file_model};
 ghost use Rattle.apd_maintenance.specs.Checking.{IsPrinted};
 

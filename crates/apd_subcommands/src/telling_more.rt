@@ -1,7 +1,7 @@
 //! What is told behind a fault's line: why a file was not had, and what is wrong with configurations.
 use crate::fault::CommandFault;
 use apd_conf::ConfigurationFault;
-use apd_reasons::{More, Purpose, tell_conf_file, tell_file, tell_repeats};
+use apd_diagnosis::{More, Purpose, tell_conf_file, tell_file, tell_repeats};
 use apd_site::{Access, OpenFault, open_disk};
 use clap::ArgMatches;
 use std::alloc::AllocError;

@@ -5,8 +5,8 @@ use crate::scripting_tests::{
     Closed, JOINED, JOINS, add_fault, expect_script, make_old_store, make_store, put,
 };
 use apd_command_line::command;
-use apd_commands::{CommandFault, run_format_command};
 use apd_site::{Access, open_disk};
+use apd_subcommands::{CommandFault, run_format_command};
 use std::fs::{self, File};
 use std::io::Write;
 use std::os::unix::fs::symlink;

@@ -1,10 +1,10 @@
 use crate::expect::{expect, expect_file, hold, read, remove, write};
-use apd_commands::{CommandFault, run_script_of_input};
 use apd_conf::{Conf, Confs};
 use apd_disk::FuseDisk;
 use apd_maintenance::run_format;
 use apd_script::{ScriptFault, run_on_store};
 use apd_site::{Access, open_disk};
+use apd_subcommands::{CommandFault, run_script_of_input};
 use std::alloc::Global;
 use std::fs::{self, File};
 use std::io::{self, BufRead, BufReader, Read, Write};

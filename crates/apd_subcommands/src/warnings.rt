@@ -1,6 +1,6 @@
 //! Warnings of what is taken as it stands, and is seldom meant so.
 use apd_conf::Confs;
-use apd_reasons::warning_of;
+use apd_diagnosis::warning_of;
 use log::{Log, warn};
 
 /// Logs, at the level warn, what is odd about the names of networks.

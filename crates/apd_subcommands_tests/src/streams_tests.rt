@@ -1,5 +1,5 @@
 use crate::expect::{expect, hold};
-use apd_commands::hold_closed_streams;
+use apd_subcommands::hold_closed_streams;
 use std::fs::File;
 use std::os::fd::AsRawFd;
 use std::process::Abort;

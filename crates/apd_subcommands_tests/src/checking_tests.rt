@@ -3,10 +3,10 @@ use crate::scripting_tests::{
     JOINS, add_fault, expect_script, make_old_store, make_store, make_store_behind, put,
 };
 use apd_command_line::command;
-use apd_commands::{CommandFault, check_and_print, run_check_command};
 use apd_conf::Confs;
 use apd_script::{read_configurations, run_on_store};
 use apd_site::{Access, open_disk};
+use apd_subcommands::{CommandFault, check_and_print, run_check_command};
 use std::fs::{self, File};
 use std::os::unix::fs::FileExt;
 use std::process::Abort;

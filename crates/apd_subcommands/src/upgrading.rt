@@ -1,7 +1,7 @@
 //! The subcommand that copies a store of version 1 into a new one.
 ghost use Rattle.std.specs.Prelude.{IfOk, OnOk, codes};
 ghost use Rattle.std.specs.Io.KnownBytes.{Appends};
-ghost use Rattle.apd_commands.specs.Files.{OfFile};
+ghost use Rattle.apd_subcommands.specs.Files.{OfFile};
 ghost use Rattle.apd_disk.specs.FileModel.{file_model};
 ghost use Rattle.apd_maintenance.specs.Upgrading.{IsCopied};
 

@@ -1,6 +1,6 @@
 //! Why a subcommand that serves nobody didn't do what it was asked for.
 ghost use Rattle.std.specs.Prelude.{◌≡◌};
-ghost use Rattle.apd_commands.specs.declared.fault.CommandFault.TheVariants.{NoMemory};
+ghost use Rattle.apd_subcommands.specs.declared.fault.CommandFault.TheVariants.{NoMemory};
 
 use apd_conf::ConfigurationFault;
 use apd_maintenance::{CheckFault, FormatFault, UpgradeFault};
