@@ -1,5 +1,5 @@
 -- What the look-ups for a clash say of the state.
-use Rattle.std.proofs.Common.{◌≡◌, ◌==◌, ◌↔◌, ℕ, ◌<◌, ◌≤◌, Option, Some, None, IsTrue, Bool, true, false, cond, not, ◌&&◌, ◌||◌, List, [], ◌∷◌, inl, inr, refl, sym, ap, ◌∙◌, IsSome, T, arith}
+use Rattle.std.proofs.Common.{◌≡◌, ◌==◌, ◌↔◌, ℕ, ◌<◌, Some, None, IsTrue, Bool, true, false, cond, not, ◌&&◌, ◌||◌, List, [], ◌∷◌, inl, inr, refl, sym, ap, ◌∙◌, IsSome, T, arith}
 use Rattle.apd_table.proofs.Words.{Addr, Any-from_list_any, AreMembers, Bssid, FinMap, IsAlone, IsFreeFor, IsMembers, Members, Sound, State, aid_at, aid_of, and_parts, bssid_cmp, bssid_exact, bssid_total, count, differ, entries_sorted, eq_by_cmp, eqb-true, false_from_ne_true, found_head, get-entries, is_associated_apart, is_set, is_some, is_sorted, is_sorted_tail, list_any, no_value, not_yes, one_or_apart, same_bssid, station_at, station_exact, station_of_aid, station_total, stations_of, tied, tied_not_below}
 use Rattle.std.proofs.lemmas.List.Folds.{list_any-from_Any}
 use Rattle.std.specs.FinMap as map
@@ -51,7 +51,7 @@ free_iff s sound b a i lt x is =
       λ free set. (let taken = place.0 set in (λ j. aid_at s b (free taken.0 taken.1 j)) ∙ taken.1),
     )
 
--- ---- a look at the BSSIDs that have stations alone
+-- ---- a look that passes over the BSSIDs without stations
 
 -- where no row is counted at a BSSID, there is none
 no_station : (s : State) (c : Bssid) (a : Addr) → count s c ≡ 0 → station_at s c a ≡ None
@@ -77,7 +77,7 @@ counted : (s : State) (b : Bssid) (a : Addr) (c : Bssid) (n : ℕ) → n ≡ cou
 counted s b a c n is =
     unless_none n _ (λ none. ap (λ row. not (eq_by_cmp bssid_cmp b c) && is_some (aid_of row)) (no_station s c a (sym is ∙ none)) ∙ and_false _)
 
--- two tests that agree on each entry
+-- two tests that agree on each entry find alike
 any_same : (p q : Bssid × Members → Bool) (es : List (Bssid × Members)) → T (is_sorted bssid_cmp es)
     → ((k : Bssid) (v : Members) → find bssid_cmp k es ≡ Some v → p (k, v) ≡ q (k, v)) → list_any p es ≡ list_any q es
 any_same p q [] sorted same = refl
@@ -85,6 +85,7 @@ any_same p q (e ∷ es) sorted same =
     let behind = any_same p q es (is_sorted_tail bssid_total e es sorted) (λ k v f. same k v (ap (λ t. cond t (Some e.1) (find bssid_cmp k es)) (tied_not_below bssid_total k e es sorted v f) ∙ f)) in
     λ i. same e.0 e.1 (found_head bssid_total bssid_exact e es) i || behind i
 
+-- so the same is found with them and without
 pub any_with_stations : (s : State) (b : Bssid) (a : Addr) (m : FinMap bssid_cmp Members) → AreMembers s m
     → list_any (λ e. not (e.1.count == 0) && is_associated_apart b e.0 (station_at s e.0 a)) (map.entries m) ≡ list_any (λ e. is_associated_apart b e.0 (station_at s e.0 a)) (map.entries m)
 any_with_stations s b a m are = any_same _ _ (map.entries m) (entries_sorted m) (λ k v f. counted s b a k v.count (are k v (get-entries m k ∙ f)).count)
