@@ -100,7 +100,7 @@ echo more >>tree/crates/apd_table/src/lib.rt
 wants tree "$program" 4 "apd apd_serve apd_table"
 echo bad >>tree/crates/apd_table/src/lib.rt
 wants tree "" 1 apd_table
-grep -q "apd_table was not built; see $folder/tree/crates/apd/out/build/apd_table.log" log || fail "it names no log"
+grep -q "apd_table was not built; see $folder/tree/crates/apd/out/rooms/apd_table/log" log || fail "it names no log"
 echo good >tree/crates/apd_table/src/lib.rt
 wants tree "$program" 4 "apd apd_serve apd_table"
 
