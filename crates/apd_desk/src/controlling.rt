@@ -21,7 +21,7 @@ use std::alloc::Global;
 use std::net::Net;
 use std::sync::Wait;
 use std::sync::ledger::Ledger;
-use std::time::Clock as SystemClock;
+use std::time::Clock as StdClock;
 
 /// The interfaces of a shared core, each with what is noted of its radio.
 #[derive(Drop)]
@@ -185,7 +185,7 @@ fn reply_settled<L: Ledger, W: Wait, P: Port>(
 /// replies to each. An order that is no entry, and a query that is not answered, get `FAIL`; one that is an entry is
 /// replied to once that is settled. It holds the lock for no call of the port. Where there is nothing to do it waits for
 /// a command, by the port's descriptor, for a reply, or for a stop.
-pub fn control_worker<L: Ledger, W: Wait + SystemClock + Net, P: Port, C: Clock, G: Gate>(
+pub fn control_worker<L: Ledger, W: Wait + StdClock + Net, P: Port, C: Clock, G: Gate>(
     rt: &W,
     alloc: Global,
     shared: &Shared<L>,

@@ -25,7 +25,7 @@ use std::alloc::Global;
 use std::net::Net;
 use std::sync::Wait;
 use std::sync::ledger::Ledger;
-use std::time::Clock as SystemClock;
+use std::time::Clock as StdClock;
 
 // What the worker of a radio has, beside the core that it asks.
 #[derive(Drop)]
@@ -212,7 +212,7 @@ fn serve_by_steps<W: Wait, A: Serves, R: Radio, C: Clock, G: Gate>(
 /// that is tried so, or taken out, is dropped. Where none serves the slot's own is given anew what is wanted, three
 /// times at most, once a turn with a rest behind. A try that fails, for want of memory too, is no fault. After
 /// the last the slot stays down: its frames are lost, and what it wants goes on. Spares that are left are dropped.
-pub fn radio_worker<L: Ledger, W: Wait + SystemClock + Net, R: Radio, C: Clock, G: Gate>(
+pub fn radio_worker<L: Ledger, W: Wait + StdClock + Net, R: Radio, C: Clock, G: Gate>(
     rt: &W,
     alloc: Global,
     shared: &Shared<L>,

@@ -10,13 +10,13 @@ use crate::submitting::submit_passing;
 use apd_core::Input;
 use std::sync::Wait;
 use std::sync::ledger::Ledger;
-use std::time::{Clock as SystemClock, Duration};
+use std::time::{Clock as StdClock, Duration};
 
 /// How far the moments of two ticks are apart at least, in milliseconds.
 const TICK: u64 = 1000;
 
 /// Submits a tick about once a second, by the clock's moments, until a stop, and gives its seat back.
-pub fn tick_worker<L: Ledger, W: Wait + SystemClock, C: Clock, G: Gate>(
+pub fn tick_worker<L: Ledger, W: Wait + StdClock, C: Clock, G: Gate>(
     rt: &W,
     shared: &Shared<L>,
     seat: Seat<L>,

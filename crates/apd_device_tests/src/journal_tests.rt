@@ -68,7 +68,7 @@ fn two_groups_and_the_end(rt: HostRuntime) {
 }
 
 #[test]
-fn each_cut(rt: HostRuntime) {
+fn a_half_cut_before_its_last_gate_is_refused(rt: HostRuntime) {
     for end in 0..91 {
         let front = HALF.get(..end).expect(&rt, "so many bytes");
         let found = is_half(&rt, rt.alloc(), front);

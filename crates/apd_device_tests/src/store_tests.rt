@@ -287,7 +287,7 @@ fn fault_after(rt: &impl Abort, alloc: Global, passes: u64) -> (StoreFault, Seen
 }
 
 #[test]
-fn the_first_bytes(rt: HostRuntime) {
+fn a_store_begins_with_its_magic_and_its_groups(rt: HostRuntime) {
     let disk = device(&rt, rt.alloc(), 2);
     let bytes = disk.bytes();
     expect(&rt, bytes.get(..8), Some(b"RAPSTOR2".as_slice()));

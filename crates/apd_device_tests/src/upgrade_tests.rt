@@ -317,7 +317,7 @@ fn expect_no_room(rt: &impl Abort, alloc: Global, length: usize) {
 }
 
 #[test]
-fn what_is_refused(rt: HostRuntime) {
+fn an_upgrade_refuses_damaged_stores_and_other_lengths(rt: HostRuntime) {
     let alloc = rt.alloc();
     for (length, parts, fault) in REFUSED {
         let old = device_of_length(&rt, alloc, *length, parts);
@@ -344,7 +344,7 @@ fn expect_copy_onto(rt: &impl Abort, alloc: Global, parts: &[Part]) {
 }
 
 #[test]
-fn onto_what_held_a_store(rt: HostRuntime) {
+fn an_upgrade_overwrites_a_store(rt: HostRuntime) {
     let alloc = rt.alloc();
     expect_copy_onto(&rt, alloc, EMPTY);
     expect_copy_onto(&rt, alloc, SWITCHED);

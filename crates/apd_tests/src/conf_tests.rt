@@ -81,7 +81,7 @@ fn fault_of(list: Vec<Conf>) -> Option<ConfsFault> {
 }
 
 #[test]
-fn refusals_in_their_order(rt: HostRuntime) {
+fn a_list_of_configurations_is_refused_for_the_first_reason(rt: HostRuntime) {
     let nine = [("a", 1); 9];
     for (of, want) in [
         ([].as_slice(), ConfsFault::Empty),
@@ -112,7 +112,7 @@ const EIGHT: [(&str, u8); 8] = [
 ];
 
 #[test]
-fn eight_are_taken(rt: HostRuntime) {
+fn eight_configurations_are_taken(rt: HostRuntime) {
     let confs = copied_radios(&rt, rt.alloc(), &EIGHT);
     expect(&rt, confs.list().len(), 8);
     let third = confs.with_bssid(Bssid(Addr([2, 0, 0, 0, 0, 3])));

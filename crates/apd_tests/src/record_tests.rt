@@ -209,7 +209,7 @@ fn check_cut(rt: &impl Abort, alloc: Global, bytes: &[u8], end: usize) {
 }
 
 #[test]
-fn each_cut(rt: HostRuntime) {
+fn a_list_of_records_that_is_cut_is_refused(rt: HostRuntime) {
     let changes = each_kind(&rt);
     let bytes = write(rt.alloc(), &changes).expect(&rt, "memory");
     expect(&rt, bytes.len(), 88);

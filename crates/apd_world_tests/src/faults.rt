@@ -13,7 +13,7 @@
 //! | `Conf::built_in` | `the_example_is_the_built_in_configuration`, `apd_tests` |
 //! | `Conf::copy`, `FileName::{new, copy}` | `a_copy_has_the_names_of_both_list_files`, `apd_tests` |
 //! | `AddressList::copy` | `a_copy_has_both_lists`, `apd_tests` |
-//! | `Confs::copy`, `InterfaceName::{new, copy}` | `eight_are_taken`, `apd_tests` |
+//! | `Confs::copy`, `InterfaceName::{new, copy}` | `eight_configurations_are_taken`, `apd_tests` |
 //! | `Ssid::{new, copy}` | `the_status_is_told`, `eight_configurations_are_copied`, `apd_tests` |
 //! | `read_list` | `addresses_are_added_and_taken_away`, `apd_tests` |
 //! | `configurations` | that of `read_configurations` |
