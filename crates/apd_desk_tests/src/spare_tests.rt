@@ -234,8 +234,9 @@ fn replies<'a, L: Ledger, W: Wait + Clock + Net>(
     begin(replies.as_slice(), texts)
 }
 
-// Waits until it is noted of the first radio that it is up, or that it is down: it may be tried again still.
-fn is_noted<L: Ledger, W: Wait + Clock>(rt: &W, shared: &Shared<L>, up: bool) -> bool {
+// Waits until it is noted of the first radio that it is up, or that it is down: it may be tried again still. Tells
+// whether it came so.
+fn wait_until_noted<L: Ledger, W: Wait + Clock>(rt: &W, shared: &Shared<L>, up: bool) -> bool {
     for _look in 0..LOOKS {
         if shared.is_noted_up(rt, WLAN0) == up {
             return true;
@@ -256,7 +257,7 @@ fn ask<L: Ledger, W: Wait + Clock + Net>(
 ) -> Option<bool> {
     let mut seat = shared.seat(rt)?;
     let up = scene.replies.first() == Some(&UP);
-    let come = all_come(rt, shared, &mut seat, stages) && is_noted(rt, shared, up);
+    let come = all_come(rt, shared, &mut seat, stages) && wait_until_noted(rt, shared, up);
     Some(replies(rt, alloc, shared, seat, scene.replies) && come)
 }
 

@@ -42,22 +42,22 @@ impl<L: Ledger, W: Wait> NotedPort<'_, L, W> {
         self.stage.done() >= self.plan.radios.len() && self.lane.next() >= self.plan.commands.len()
     }
 
-    // Whether all entries were settled, or that took too long.
-    fn asks_settled(&mut self) -> bool {
+    // Asks once more whether all entries were settled, and tells so, or that it took too long.
+    fn ask_if_settled(&mut self) -> bool {
         self.last_polls = self.last_polls.wrapping_add(1);
         self.ask();
         self.seat.seen_number() >= self.stage.last() || self.last_polls > LAST_POLLS
     }
 
-    // Whether all are to stop.
-    fn comes_to_end(&mut self) -> bool {
+    // Counts a poll, and tells whether all are to stop.
+    fn count_poll(&mut self) -> bool {
         self.polls = self.polls.wrapping_add(1);
         if self.polls >= POLLS {
             return true;
         }
         match self.plan.end {
             End::AllGiven | End::AtEntry(_) => self.is_given(),
-            End::AllSettled => self.is_given() && self.asks_settled(),
+            End::AllSettled => self.is_given() && self.ask_if_settled(),
             End::AtPoll(poll) => self.polls > poll,
         }
     }
@@ -139,7 +139,7 @@ impl<L: Ledger, W: Wait> NotedPort<'_, L, W> {
 impl<L: Ledger, W: Wait> Port for NotedPort<'_, L, W> {
     fn poll(&mut self) -> Result<Option<(u64, Vec<u8>)>, PortFault> {
         self.shaker.shake();
-        if self.comes_to_end() {
+        if self.count_poll() {
             self.shared.stop(self.rt);
             return Ok(None);
         }
