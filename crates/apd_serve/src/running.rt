@@ -12,7 +12,7 @@ use apd_conf::Confs;
 use apd_control_port::ControlPort;
 use apd_desk::NoGate;
 use apd_disk::{FileDisk, FileRecord};
-use apd_radio::SocketFault;
+use apd_radio::{Radio, SocketFault};
 use apd_site::{
     Alarm, Driven, Edits, Elsewhere, Ending, OpenFault, RecordingFile, Site, SiteFault, SiteRadio,
     StoreWatch, UntilFault, elsewhere_of, open_radios, open_recordings_of, open_watch, site_radios,
@@ -144,14 +144,15 @@ fn open_ports<'a, W: Net + AllocGlobal + Log>(
     })
 }
 
-// The world of a store that was opened, started. What doesn't count is told before, and what is served behind it.
-fn start_world<'a, W: AllocGlobal + Log>(
-    rt: &'a W,
+// The world of a store that was opened, started, with any radios. What doesn't count is told before, and what is served
+// behind it.
+fn start_world<W: AllocGlobal + Log, R: Radio>(
+    rt: &W,
     store: OpenStore,
     confs: Confs,
     port: u16,
-    radios: Vec<SiteRadio<'a, W>>,
-) -> Result<World<FileDisk, SiteRadio<'a, W>>, RunFault> {
+    radios: Vec<R>,
+) -> Result<World<FileDisk, R>, RunFault> {
     tell_lists(rt, &confs, store.table());
     let recovered = store.table().rows();
     let world = begin_world(rt.alloc(), store, confs, radios)?;
