@@ -1,4 +1,5 @@
 pub mod Entries
+pub mod Faults
 pub mod FileWorld
 pub mod HandedOut
 pub mod Worked

@@ -72,6 +72,10 @@ impl From<OpenFault> for RunFault {
 }
 
 impl From<SiteFault> for RunFault {
+    ghost use Rattle.apd_serve.specs.Faults.{of_site};
+
+    ghost from_gives = { λ inner fault. fault ≡ of_site inner };
+
     fn from(fault: SiteFault) -> RunFault {
         match fault {
             SiteFault::Open(fault) => RunFault::Open(fault),
