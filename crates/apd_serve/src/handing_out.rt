@@ -139,7 +139,7 @@ pub(crate) fn hand_out<L: Ledger, W: Wait + Clock + Log, R: Radio>(
 }
 
 /// Sends the replies to orders that are settled. What the port loses is lost; that memory lacked for them is logged.
-pub(crate) fn reply_settled<L: Ledger, W: Wait + Clock + Log, P: Port>(
+pub(crate) fn reply_last<L: Ledger, W: Wait + Clock + Log, P: Port>(
     rt: &W,
     shared: &Shared<L>,
     seat: &mut Seat<L>,

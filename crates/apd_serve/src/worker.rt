@@ -6,7 +6,7 @@ ghost use Rattle.apd_serve.specs.Entries.{entries_of, entries_of_seat};
 ghost use Rattle.apd_serve.specs.Worked.{HasWorked};
 
 use crate::crew::{Job, Stops};
-use crate::handing_out::{hand_out, reply_settled};
+use crate::handing_out::{hand_out, reply_last};
 use apd_desk::{
     Clock, Ending, Gate, Port, Seat, Shared, commit_all, control_worker, radio_worker, tick_worker,
 };
@@ -155,7 +155,7 @@ impl<L: Ledger, D: Disk + Drop, R: Radio, P: Port + Drop> Worker<L, D, R, P> {
             }
             Worker::Control(seat, port) => {
                 let (mut seat, mut port) = (seat, port);
-                reply_settled(rt, shared, &mut seat, &mut port);
+                reply_last(rt, shared, &mut seat, &mut port);
                 Worker::Control(seat, port)
             }
             Worker::Ticks(seat) => Worker::Ticks(seat),

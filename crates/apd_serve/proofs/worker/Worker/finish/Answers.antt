@@ -17,8 +17,8 @@ returns-in-Radio-clause-worked g c =
 
 pub returns-in-Control-clause-worked : goal.returns-in-Control-clause-worked
 returns-in-Control-clause-worked g c =
-    subst (λ (old : Worker g.row.L.Denot g.row.D.Denot g.row.R.Denot g.row.P.Denot). HasWorked g.D.Disk.model g.R.Radio.model old (Control c.reply_settled.new.seat c.reply_settled.new.port)) (sym c.in-Control.is)
-    (has_replied g.D.Disk.model g.R.Radio.model c.in-Control.seat c.reply_settled.new.seat c.in-Control.port c.reply_settled.new.port c.reply_settled.ensures.later)
+    subst (λ (old : Worker g.row.L.Denot g.row.D.Denot g.row.R.Denot g.row.P.Denot). HasWorked g.D.Disk.model g.R.Radio.model old (Control c.reply_last.new.seat c.reply_last.new.port)) (sym c.in-Control.is)
+    (has_replied g.D.Disk.model g.R.Radio.model c.in-Control.seat c.reply_last.new.seat c.in-Control.port c.reply_last.new.port c.reply_last.ensures.later)
 
 pub returns-in-Ticks-clause-worked : goal.returns-in-Ticks-clause-worked
 returns-in-Ticks-clause-worked g c =
