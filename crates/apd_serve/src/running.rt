@@ -10,12 +10,12 @@ use crate::serving::{serve_started, start};
 use crate::telling_port::TellingPort;
 use apd_conf::Confs;
 use apd_control_port::ControlPort;
-use apd_desk::NoGate;
-use apd_disk::{FileDisk, FileRecord};
+use apd_desk::{NoGate, Port};
+use apd_disk::{Disk, FileDisk, FileRecord};
 use apd_radio::{Radio, SocketFault};
 use apd_site::{
-    Alarm, Driven, Edits, Elsewhere, Ending, OpenFault, RecordingFile, Site, SiteFault, SiteRadio,
-    StoreWatch, UntilFault, elsewhere_of, open_radios, open_recordings_of, open_watch, site_radios,
+    Alarm, Driven, Edits, Elsewhere, Ending, OpenFault, RecordingFile, Site, SiteFault, StoreWatch,
+    UntilFault, elsewhere_of, open_radios, open_recordings_of, open_watch, site_radios,
     tell_entries, tell_lists, tell_start, watch,
 };
 use apd_store::StoreFault;
@@ -148,6 +148,13 @@ fn open_ports<'a, W: Net + AllocGlobal + Log>(
     })
 }
 
+// What is watched while a site serves: its store's file, and who else sends to its radios.
+#[derive(Drop)]
+struct Watched<'a> {
+    store: StoreWatch<'a>,
+    elsewhere: Elsewhere,
+}
+
 // The world of a store that was opened, started, with any radios. What doesn't count is told before, and what is served
 // behind it.
 fn start_world<W: AllocGlobal + Log, R: Radio>(
@@ -169,22 +176,52 @@ fn start_world<W: AllocGlobal + Log, R: Radio>(
     }
 }
 
-// What is served: a world that is started, and its port of commands.
-#[derive(Drop)]
-struct Service<'a, W: Log> {
-    world: World<FileDisk, SiteRadio<'a, W>>,
-    commands: TellingPort<'a, W, ControlPort>,
+// Serves until the input ends, and then tells the one who watches.
+fn serve_and_end<
+    W: Net + Wait + Threads + Clock + AllocGlobal + Log + Sync,
+    D: Disk + Drop + Send,
+    R: Radio + Send,
+    P: Port + Drop + Send,
+    B: Read,
+>(
+    rt: &W,
+    world: World<D, R>,
+    commands: P,
+    ending: &Ending,
+    alarm: &Alarm,
+    reader: &mut B,
+) -> Result<u64, ServeFault>
+where
+    W::Stream: Send + Sync,
+    W::Listener: Send + Sync,
+{
+    let clock = SystemClock::new(rt);
+    let answer = serve_started(
+        rt,
+        rt.alloc(),
+        world,
+        commands,
+        &clock,
+        &NoGate,
+        alarm,
+        reader,
+    );
+    ending.end(rt);
+    answer
 }
 
 // Serves until the input ends, and watches the store's file, and who else sends to the radios, meanwhile.
 fn serve_beside_watch<
     W: Files<File = File> + Net + Wait + Threads + Clock + AllocGlobal + Log + Sync,
+    D: Disk + Drop + Send,
+    R: Radio + Send,
+    P: Port + Drop + Send,
     B: Read,
 >(
     rt: &W,
-    watched: &mut StoreWatch<'_>,
-    elsewhere: &mut Elsewhere,
-    service: Service<'_, W>,
+    watched: &mut Watched<'_>,
+    world: World<D, R>,
+    commands: P,
     alarm: &Alarm,
     reader: &mut B,
 ) -> Result<u64, ServeFault>
@@ -194,30 +231,42 @@ where
     W::Listener: Send + Sync,
 {
     let ending = Ending::new();
+    let Watched { store, elsewhere } = watched;
     let answer = run_beside(
         rt,
-        || watch(rt, watched, elsewhere, &ending),
-        || {
-            let Service { world, commands } = service;
-            let clock = SystemClock::new(rt);
-            let answer = serve_started(
-                rt,
-                rt.alloc(),
-                world,
-                commands,
-                &clock,
-                &NoGate,
-                alarm,
-                reader,
-            );
-            ending.end(rt);
-            answer
-        },
+        || watch(rt, store, elsewhere, &ending),
+        || serve_and_end(rt, world, commands, &ending, alarm, reader),
     );
     answer.unwrap_or(Err(ServeFault::Thread))
 }
 
-// Starts a world over what a site has, tells what is served, and serves it.
+// Starts a world over a store and any radios, tells what is served, and serves it.
+fn serve_radios<
+    W: Files<File = File> + Net + Wait + Threads + Clock + AllocGlobal + Log + Sync,
+    R: Radio + Send,
+    P: Port + Drop + Send,
+    B: Read,
+>(
+    rt: &W,
+    confs: Confs,
+    port: u16,
+    store: OpenStore,
+    radios: Vec<R>,
+    commands: P,
+    watched: &mut Watched<'_>,
+    alarm: &Alarm,
+    reader: &mut B,
+) -> Result<u64, RunFault>
+where
+    W::Dir: Send + Sync,
+    W::Stream: Send + Sync,
+    W::Listener: Send + Sync,
+{
+    let world = start_world(rt, store, confs, port, radios)?;
+    serve_beside_watch(rt, watched, world, commands, alarm, reader).map_err(RunFault::Serve)
+}
+
+// Makes the radios of a site, and serves it by them.
 fn serve_site<
     W: Files<File = File> + Net + Wait + Threads + Clock + AllocGlobal + Log + Sync,
     B: Read,
@@ -237,19 +286,29 @@ where
 {
     let SiteFiles {
         store,
-        mut watched,
+        watched,
         recordings,
     } = files;
     let SitePorts {
         commands,
         radios,
-        mut elsewhere,
+        elsewhere,
     } = ports;
     let radios = site_radios(rt, &confs, site, radios, recordings)?;
-    let world = start_world(rt, store, confs, site.port, radios)?;
-    let service = Service { world, commands };
-    serve_beside_watch(rt, &mut watched, &mut elsewhere, service, alarm, reader).map_err(
-        RunFault::Serve,
+    let mut watched = Watched {
+        store: watched,
+        elsewhere,
+    };
+    serve_radios(
+        rt,
+        confs,
+        site.port,
+        store,
+        radios,
+        commands,
+        &mut watched,
+        alarm,
+        reader,
     )
 }
 
