@@ -20,26 +20,34 @@ fn carry_out<R: Host>(rt: &R, matches: &ArgMatches<'_>) -> Result<(), ProgramFau
     }
 }
 
+// Does what parsed words say, or gives the text for ports that are refused. More of a fault is told besides, as far as
+// memory reaches.
+fn carry_out_or_tell<R: Host>(
+    rt: &R,
+    matches: &ArgMatches<'_>,
+    more: &mut More,
+) -> Result<Option<clap::Error>, ProgramFault> {
+    if let Some(run) = matches.subcommand_matches("run")
+        && let Some(error) = refuse_ports(rt.alloc(), run)?
+    {
+        return Ok(Some(error));
+    }
+    if let Err(fault) = carry_out(rt, matches) {
+        let _ = tell_more(rt, more, matches, &fault);
+        return Err(fault);
+    }
+    Ok(None)
+}
+
 // Does what the words of a command line say, or gives the text that `clap` has for one that is wrong, or that asks
-// for help or for the version. More of a fault is told besides, as far as memory reaches.
+// for help or for the version. More of a fault is told besides.
 fn run_words<R: Host>(
     rt: &R,
     words: &[String],
     more: &mut More,
 ) -> Result<Option<clap::Error>, ProgramFault> {
     match command(rt.alloc())?.try_get_matches_from(words) {
-        Ok(matches) => {
-            if let Some(run) = matches.subcommand_matches("run")
-                && let Some(error) = refuse_ports(rt.alloc(), run)?
-            {
-                return Ok(Some(error));
-            }
-            if let Err(fault) = carry_out(rt, &matches) {
-                let _ = tell_more(rt, more, &matches, &fault);
-                return Err(fault);
-            }
-            Ok(None)
-        }
+        Ok(matches) => carry_out_or_tell(rt, &matches, more),
         Err(error) => Ok(Some(error)),
     }
 }
