@@ -1,5 +1,5 @@
 -- A slot that is given outs, step by step.
-use Rattle.std.proofs.Common.{◌≡◌, ℕ, List, Option, Result}
+use Rattle.std.proofs.Common.{ℕ, List, Option, Result}
 use Rattle.std.specs.declared.alloc.AllocError.{AllocError}
 use Rattle.apd_radio.specs.Model.{RadioModel}
 use Rattle.apd_slot.specs.Slots.{bssid_of}
