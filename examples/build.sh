@@ -9,9 +9,9 @@ here=$(dirname "$(readlink -f "$0")")
 APD=${APD:-/bin/true} && . "$here/testing"
 needs python3 flock setsid setpriv
 chmod 755 .
-mkdir bin tree tree/docs kept
+mkdir bin tree tree/docs kept tmp
 PATH=$PWD/bin:$PATH
-export PATH KEPT="$folder/kept" CALLS="$folder/calls" STEP=0.02
+export PATH TMPDIR="$folder/tmp" KEPT="$folder/kept" CALLS="$folder/calls" STEP=0.02
 cat >bin/rt <<'END'
 #!/usr/bin/env python3
 """Proves the crates of a repository in ten steps each, over libraries that were proved, and keeps what it proved."""
@@ -87,7 +87,9 @@ program="program some words
 input"
 wants tree "$program" 4 "apd apd_base apd_conf apd_frame apd_serve apd_table"
 [ "$(cat calls.ends)" = end ] || fail "rt was not called once"
+grep -q "apd is proved; 0 more, in some 1 min" log || fail "it tells no time, or a wrong one"
 wants tree "$program" 4 ""
+[ ! -s calls.ends ] || fail "rt was called for what it had just built"
 cp -R tree copied
 find copied -exec touch {} +
 wants copied "$program" 4 ""
@@ -105,6 +107,11 @@ mkdir tree/crates/apd_base/must-fail
 echo "old: a" >tree/crates/apd_base/must-fail/one.edit
 wants tree "$program" 4 ""
 [ ! -s calls.ends ] || fail "rt was called for what the program isn't made from"
+# Another program in its place, as rt run leaves one, isn't the one that was built.
+printf '#!/bin/sh\necho other\n' >tree/crates/apd/out/apd
+wants tree "$program" 4 ""
+rm tree/crates/apd/out/apd
+wants tree "$program" 4 ""
 echo more >>tree/crates/apd_table/src/lib.rt
 wants tree "$program" 4 "apd apd_serve apd_table"
 echo bad >>tree/crates/apd_table/src/lib.rt
@@ -141,4 +148,4 @@ grep -q "waiting for another one" log log.two || fail "two at once: none waited"
 [ "$(cat calls.ends)" = end ] || fail "two at once: rt was called by both"
 steps=$(wc -l <calls.steps)
 [ "$steps" -le 100 ] || fail "$steps steps were made, where 60 are enough, and ten more each time that a build was ended"
-[ ! -e tree/crates/apd/out/room ] || fail "it leaves its room"
+[ -z "$(ls tmp)" ] || fail "it leaves $(ls tmp)"
