@@ -1,8 +1,8 @@
 #!/bin/sh
 # Tries who may ask a daemon that private/serve serves in a network namespace of its own. Another user reaches neither
-# its ports nor the sockets of apd-ctrl. Who is in the group has each command, from Python, and from hostapd_cli, where
-# that is installed; and clients that mean harm keep nobody from it. Then, over --drivers, 100,000 datagrams from a port
-# that is not the radio's peer change nothing, and get nothing.
+# its ports nor the sockets of apd-ctrl. Who is in the group gets the replies that private/tries.py lists, from Python,
+# and from hostapd_cli, where that is installed; and clients that mean harm keep nobody from it. Then, over --drivers,
+# 100,000 datagrams from a port that is not the radio's peer change nothing, and get nothing.
 # Use, as root: examples/private.sh, from anywhere. APD names the program, and PRIVATE another folder of examples/. It
 # ends with status 1 at the first thing that is amiss, and with 77 where no namespace can be made.
 here=$(dirname "$(readlink -f "$0")")

@@ -215,7 +215,7 @@ def status(interface, channel, count):
     )
 
 
-# Each command of hostapd_cli, what that sends, and the reply to each. A list's edit sends the station away.
+# Commands of hostapd_cli, what that sends for each, and the replies. A list's edit sends the station away.
 COMMANDS = [
     ("ping", ["PING"], ["PONG\n"]),
     ("status", ["STATUS"], [status("wlan1", 6, 2)]),
@@ -247,7 +247,7 @@ def try_others():
 
 
 def try_commands():
-    """Each command, by Python, and by hostapd_cli."""
+    """These commands, by Python, and by hostapd_cli."""
     for by_cli in [False, True] if HOSTAPD_CLI else [False]:
         want("stations", "authenticated", as_radio(authenticate, "wlan1", *STATIONS))
         for words, commands, replies in COMMANDS:
@@ -256,7 +256,7 @@ def try_commands():
             else:
                 for command, reply in zip(commands, replies):
                     want(command, reply, as_member(ask, "wlan1", command))
-        print(f"who is in the group has each command by {'hostapd_cli' if by_cli else 'Python'}")
+        print(f"who is in the group has {len(COMMANDS)} commands by {'hostapd_cli' if by_cli else 'Python'}")
     if not HOSTAPD_CLI:
         print("hostapd_cli is not installed here, and was not tried")
     want("root asks", "PONG\n", ask("wlan0", "PING"))
