@@ -17,6 +17,8 @@ ghost use Rattle.apd_mlme.specs.Run.{AreFit};
 ghost use Rattle.apd_core.specs.Requests.{event_happening, happening_of, HasLists};
 ghost use Rattle.apd_core.specs.Core.{after_all_settled, IsLongestFront};
 ghost use Rattle.apd_core.specs.for_proofs.Core.{entries_of, IsMeasured};
+ghost use Rattle.apd_core.specs.Heard.{AreHeardAt};
+ghost use Rattle.apd_core.specs.Held.{no_outs};
 ghost use Rattle.apd_journal.specs.Half.{IsGroup, changes_of};
 ghost use Rattle.apd_store.specs.Outside.{held_batch};
 
@@ -29,7 +31,7 @@ use crate::query_answer::Answer;
 use crate::ticket::{Accepted, Ticket};
 use apd_base::limits::{MAX_GROUP, MAX_KEPT};
 use apd_base::{Moment, Sequence};
-use apd_conf::Confs;
+use apd_conf::{Conf, Confs};
 use apd_ctrl::{Query, reply};
 use apd_journal::Batch;
 use apd_mlme::{Decision, Event, Out, Recipient, decide};
@@ -80,11 +82,39 @@ impl Model for Core {
     ghost invariant = { IsKept };
 }
 
+// The table after all entries, the moments and what is held, of a core with no entry.
+fn parts_of(
+    alloc: Global,
+    table: &Table,
+    confs: &[Conf],
+    moment: Moment,
+) -> Result<(Table, LastHeard, Held), AllocError>
+    ensures front { IfOk result (λ parts. parts.0 ≡ table.now) }
+    ensures heard { IfOk result (λ parts. AreHeardAt moment table.now parts.1) }
+    ensures held { IfOk result (λ parts. parts.2 ≡ no_outs confs.now) }
+{
+    let front = table.copy(alloc)?;
+    let heard = match LastHeard::of_rows(alloc, table, moment) {
+        Ok(heard) => heard,
+        Err(error) => {
+            drop(front);
+            return Err(error);
+        }
+    };
+    match Held::new(alloc, confs) {
+        Ok(held) => Ok((front, heard, held)),
+        Err(error) => {
+            drop(front);
+            drop(heard);
+            Err(error)
+        }
+    }
+}
+
 impl Core {
     ghost use Rattle.apd_core.specs.Core.{answer_at, after_request, new_core, answer_to, answer_happenings, entered_state, front_of, is_busy, is_stopped, last_of, with_entry, IsDecided};
     ghost use Rattle.apd_core.specs.Invariant.{IsCore};
     ghost use Rattle.apd_core.specs.Requests.{unfitness};
-    ghost use Rattle.apd_core.specs.Heard.{AreHeardAt};
 
     /// A core of a table and of configurations, with no entry: every station with a row was heard at this
     /// moment. It copies the table.
@@ -98,11 +128,24 @@ impl Core {
         ensures heard { IfOk result (λ core. AreHeardAt moment table core.heard) }
     {
         table.sound();
-        let front = table.copy(alloc)?;
-        let heard = LastHeard::of_rows(alloc, &table, moment)?;
-        let held = Held::new(alloc, confs.list())?;
-        let Ok(settled) = Staged::new(alloc, table) else {
-            return Err(AllocError);
+        let (front, heard, held) = match parts_of(alloc, &table, confs.list(), moment) {
+            Ok(parts) => parts,
+            Err(error) => {
+                drop(table);
+                drop(confs);
+                return Err(error);
+            }
+        };
+        let settled = match Staged::new(alloc, table) {
+            Ok(settled) => settled,
+            Err((table, error)) => {
+                drop(table);
+                drop(confs);
+                drop(front);
+                drop(heard);
+                drop(held);
+                return Err(error);
+            }
         };
         Ok(Core {
             alloc,

@@ -6,5 +6,5 @@ use Rattle.apd_core.proofs.request_core.Core.new.Goals as goal
 
 pub invariant_of-result : goal.invariant_of-result
 invariant_of-result c =
-    new_kept _ c.args.table c.args.confs refl (ap (λ s. s.table) c.in-Ok.ensures.ok) refl c.new-3.ensures.items refl (c.in_ok-held.ensures ∙ ap no_outs c.list.ensures.list) refl c.in_ok-front.ensures refl c.new-4.ensures
-    (subst AreConfs c.list.ensures.list c.list.ensures.confs) c.sound.ensures (heard_at c.args.moment c.args.table c.in_ok-heard.heard c.in_ok-heard.ensures)
+    new_kept _ c.args.table c.args.confs refl (ap (λ s. s.table) c.in-Ok-new.ensures.ok) refl c.new-2.ensures.items refl (c.in-Ok.ensures.held ∙ ap no_outs c.list.ensures.list) refl c.in-Ok.ensures.front refl c.new-3.ensures
+    (subst AreConfs c.list.ensures.list c.list.ensures.confs) c.sound.ensures (heard_at c.args.moment c.args.table c.in-Ok.parts.1 c.in-Ok.ensures.heard)
