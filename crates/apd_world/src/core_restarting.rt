@@ -28,13 +28,19 @@ pub(crate) fn durable_core_of<D: Disk>(
 {
     table.sound();
     let Ok(own) = table.copy(alloc) else {
+        drop(table);
+        drop(confs);
         return Err(store.into_device());
     };
     let Ok(core) = Core::new(alloc, own, confs, moment) else {
+        drop(table);
         return Err(store.into_device());
     };
     match Flusher::new(alloc, store, table) {
         Ok(flusher) => Ok(DurableCore::new(flusher, core)),
-        Err((device, _fault)) => Err(device),
+        Err((device, _fault)) => {
+            drop(core);
+            Err(device)
+        }
     }
 }

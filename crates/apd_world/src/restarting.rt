@@ -71,7 +71,8 @@ pub fn begin_anew<D: Disk, R: Radio>(
             slots,
         }),
         Err((bssid, fault)) => {
-            let (flusher, _core) = durable.into_parts();
+            let (flusher, core) = durable.into_parts();
+            drop(core);
             let fault = WorldFault::Slot(bssid, fault);
             Err((flusher.into_device(), slots, fault))
         }
