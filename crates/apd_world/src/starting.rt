@@ -41,10 +41,15 @@ impl<D: Disk, R: Radio> World<D, R> {
                 deny: &conf.deny,
             };
             self.durable.sound();
-            if let Told::NoMemory = self.step(&Step::Accept(input, Moment(0))) {
-                return Err(WorldFault::NoMemory);
+            match self.step(&Step::Accept(input, Moment(0))) {
+                Told::NoMemory => {
+                    drop(confs);
+                    return Err(WorldFault::NoMemory);
+                }
+                told => drop(told),
             }
         }
+        drop(confs);
         Ok(())
     }
 
