@@ -99,13 +99,25 @@ fn open_files<'a>(
     site: &Site<'a>,
 ) -> Result<SiteFiles<'a>, RunFault> {
     let store = open_store(rt, site.store, FileRecord::new())?;
-    let watched = open_watch(rt, site.store)?;
-    let recordings = open_recordings_of(rt, confs, site)?;
-    Ok(SiteFiles {
-        store,
-        watched,
-        recordings,
-    })
+    let watched = match open_watch(rt, site.store) {
+        Ok(watched) => watched,
+        Err(fault) => {
+            drop(store);
+            return Err(fault.into());
+        }
+    };
+    match open_recordings_of(rt, confs, site) {
+        Ok(recordings) => Ok(SiteFiles {
+            store,
+            watched,
+            recordings,
+        }),
+        Err(fault) => {
+            drop(watched);
+            drop(store);
+            Err(fault.into())
+        }
+    }
 }
 
 // The ports of a site: that of commands, those of its radios, and what counts who else sends to these.
@@ -139,13 +151,25 @@ fn open_ports<'a, W: Net + AllocGlobal + Log>(
     site: &Site<'_>,
 ) -> Result<SitePorts<'a, W>, RunFault> {
     let commands = open_commands(rt, confs, site)?;
-    let radios = open_radios(rt, site, confs.list().len())?;
-    let elsewhere = elsewhere_of(rt.alloc(), confs, &radios)?;
-    Ok(SitePorts {
-        commands,
-        radios,
-        elsewhere,
-    })
+    let radios = match open_radios(rt, site, confs.list().len()) {
+        Ok(radios) => radios,
+        Err(fault) => {
+            drop(commands);
+            return Err(fault.into());
+        }
+    };
+    match elsewhere_of(rt.alloc(), confs, &radios) {
+        Ok(elsewhere) => Ok(SitePorts {
+            commands,
+            radios,
+            elsewhere,
+        }),
+        Err(error) => {
+            drop(radios);
+            drop(commands);
+            Err(error.into())
+        }
+    }
 }
 
 // What is watched while a site serves: its store's file, and who else sends to its radios.
@@ -294,22 +318,31 @@ where
         radios,
         elsewhere,
     } = ports;
-    let radios = site_radios(rt, &confs, site, radios, recordings)?;
-    let mut watched = Watched {
-        store: watched,
-        elsewhere,
-    };
-    serve_radios(
-        rt,
-        confs,
-        site.port,
-        store,
-        radios,
-        commands,
-        &mut watched,
-        alarm,
-        reader,
-    )
+    match site_radios(rt, &confs, site, radios, recordings) {
+        Ok(radios) => {
+            let mut watched = Watched {
+                store: watched,
+                elsewhere,
+            };
+            let served = serve_radios(
+                rt,
+                confs,
+                site.port,
+                store,
+                radios,
+                commands,
+                &mut watched,
+                alarm,
+                reader,
+            );
+            drop(watched);
+            served
+        }
+        Err(fault) => {
+            drop((elsewhere, commands, watched, store, confs));
+            Err(fault.into())
+        }
+    }
 }
 
 // Opens a site and serves it. The alarm rings where the store's device fails. Nothing that is there is changed before the
@@ -323,9 +356,21 @@ where
     W::Stream: Send + Sync,
     W::Listener: Send + Sync,
 {
-    let files = open_files(rt, &confs, site)?;
-    let ports = open_ports(rt, &confs, site)?;
-    serve_site(rt, confs, site, files, ports, alarm, reader)
+    let files = match open_files(rt, &confs, site) {
+        Ok(files) => files,
+        Err(fault) => {
+            drop(confs);
+            return Err(fault);
+        }
+    };
+    match open_ports(rt, &confs, site) {
+        Ok(ports) => serve_site(rt, confs, site, files, ports, alarm, reader),
+        Err(fault) => {
+            drop(files);
+            drop(confs);
+            Err(fault)
+        }
+    }
 }
 
 // An input that ends, too, once the alarm has rung.
@@ -339,6 +384,48 @@ fn end_at_fault<'a, B: Drop>(
         Ok(reader) => Ok(reader),
         Err(error) if error.kind() == ErrorKind::OutOfMemory => Err(RunFault::NoMemory),
         Err(_) => Err(RunFault::Input),
+    }
+}
+
+// Opens a site and serves it until this input ends.
+fn run_on<
+    W: Files<File = File> + Net + Wait + Threads + Clock + AllocGlobal + Log + Sync,
+    B: Read + Drop,
+>(rt: &W, confs: Confs, site: &Site<'_>, alarm: &Alarm, reader: B) -> Result<u64, RunFault>
+where
+    W::Dir: Send + Sync,
+    W::Stream: Send + Sync,
+    W::Listener: Send + Sync,
+{
+    let mut reader = reader;
+    let answer = run_site(rt, confs, site, alarm, &mut reader);
+    drop(reader);
+    answer
+}
+
+// The same until the alarm has rung, too.
+fn run_until_fault<
+    W: Files<File = File> + Net + Wait + Threads + Clock + AllocGlobal + Log + Sync,
+    B: Read + Drop,
+>(
+    rt: &W,
+    confs: Confs,
+    site: &Site<'_>,
+    alarm: &Alarm,
+    reader: B,
+    descriptor: RawFd,
+) -> Result<u64, RunFault>
+where
+    W::Dir: Send + Sync,
+    W::Stream: Send + Sync,
+    W::Listener: Send + Sync,
+{
+    match end_at_fault(rt, reader, descriptor, alarm) {
+        Ok(reader) => run_on(rt, confs, site, alarm, reader),
+        Err(fault) => {
+            drop(confs);
+            Err(fault)
+        }
     }
 }
 
@@ -367,15 +454,9 @@ where
 {
     let alarm = Alarm::new();
     let entries = match site.ends_at_fault {
-        None => {
-            let mut reader = reader;
-            run_site(rt, confs, site, &alarm, &mut reader)?
-        }
-        Some(descriptor) => {
-            let mut reader = end_at_fault(rt, reader, descriptor, &alarm)?;
-            run_site(rt, confs, site, &alarm, &mut reader)?
-        }
-    };
+        None => run_on(rt, confs, site, &alarm, reader),
+        Some(descriptor) => run_until_fault(rt, confs, site, &alarm, reader, descriptor),
+    }?;
     tell_entries(rt, entries);
     if site.ends_at_fault.is_some() && alarm.has_rung() {
         return Err(RunFault::Serve(ServeFault::Store(StoreFault::Device)));

@@ -138,10 +138,23 @@ fn close<L: Ledger, W: Wait + time::Clock + Log, D: Disk + Drop, R: Radio, P: Po
     ensures { IfOk result (λ entries. entries ≡ entries_of_all workers.items) }
 {
     let mut seats = seats;
-    dismiss(rt, alloc, &shared, workers, gate, alarm, &mut seats)?;
-    match shared.close(seats) {
-        Ok((_core, entries)) => Ok(entries),
-        Err(_missing) => Err(ServeFault::Thread),
+    match dismiss(rt, alloc, &shared, workers, gate, alarm, &mut seats) {
+        Ok(()) => match shared.close(seats) {
+            Ok((core, entries)) => {
+                drop(core);
+                Ok(entries)
+            }
+            Err((shared, seats)) => {
+                drop(seats);
+                drop(shared);
+                Err(ServeFault::Thread)
+            }
+        },
+        Err(error) => {
+            drop(seats);
+            drop(shared);
+            Err(error.into())
+        }
     }
 }
 
@@ -166,9 +179,64 @@ where
     ensures none { IfOk result (λ made. made.1.items ≡ []) }
 {
     let Environment { rt, alloc, .. } = environment;
-    let seats = Vec::with_capacity(*alloc, workers.len())?;
-    let workers = work_until_end(*rt, *alloc, environment, workers, reader)?;
-    Ok((workers, seats))
+    let seats = match Vec::with_capacity(*alloc, workers.len()) {
+        Ok(seats) => seats,
+        Err(error) => {
+            drop(workers);
+            return Err(error.into());
+        }
+    };
+    match work_until_end(*rt, *alloc, environment, workers, reader) {
+        Ok(workers) => Ok((workers, seats)),
+        Err(fault) => {
+            drop(seats);
+            Err(fault)
+        }
+    }
+}
+
+// Has a crew work until the input ends, and closes what is left.
+fn work_and_close<
+    L: Ledger + Send + Sync,
+    W: Wait + Threads + time::Clock + Log + Net + Sync,
+    D: Disk + Drop + Send,
+    R: Radio + Send,
+    P: Port + Drop + Send,
+    C: Clock + Sync,
+    G: Gate + Sync,
+    B: Read,
+>(
+    rt: &W,
+    alloc: Global,
+    shared: Shared<L>,
+    workers: Vec<Worker<L, D, R, P>>,
+    clock: &C,
+    gate: &G,
+    alarm: &Alarm,
+    reader: &mut B,
+) -> Result<u64, ServeFault>
+where
+    W::Stream: Send + Sync,
+    W::Listener: Send + Sync,
+    requires { L.parts ≡ SEATS }
+{
+    let environment = Environment {
+        rt,
+        alloc,
+        shared: &shared,
+        clock,
+        gate,
+        alarm,
+    };
+    let worked = work(&environment, workers, reader);
+    drop(environment);
+    match worked {
+        Ok((workers, seats)) => close(rt, alloc, shared, workers, gate, alarm, seats),
+        Err(fault) => {
+            drop(shared);
+            Err(fault)
+        }
+    }
 }
 
 // Takes a started world apart, has its crew work until the input ends, and closes what is left, over one ledger.
@@ -201,18 +269,13 @@ where
 {
     let (flusher, core, slots) = world.into_parts();
     let shared = Shared::<L>::new(core, blank);
-    let workers = crew(rt, alloc, &shared, Committer::new(flusher), slots, port)?;
-    let environment = Environment {
-        rt,
-        alloc,
-        shared: &shared,
-        clock,
-        gate,
-        alarm,
-    };
-    let (workers, seats) = work(&environment, workers, reader)?;
-    drop(environment);
-    close(rt, alloc, shared, workers, gate, alarm, seats)
+    match crew(rt, alloc, &shared, Committer::new(flusher), slots, port) {
+        Ok(workers) => work_and_close(rt, alloc, shared, workers, clock, gate, alarm, reader),
+        Err(fault) => {
+            drop(shared);
+            Err(fault)
+        }
+    }
 }
 
 /// A world, started: each interface is configured, which is committed and handed out. Then nothing waits in it that would
@@ -222,8 +285,14 @@ pub(crate) fn start<D: Disk + Drop, R: Radio>(
 ) -> Result<World<D, R>, ServeFault> {
     let mut world = world;
     match world.start() {
-        Ok(_told) => Ok(world),
-        Err(fault) => Err(of_start(fault)),
+        Ok(told) => {
+            drop(told);
+            Ok(world)
+        }
+        Err(fault) => {
+            drop(world);
+            Err(of_start(fault))
+        }
     }
 }
 
