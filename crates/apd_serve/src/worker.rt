@@ -167,9 +167,18 @@ impl<L: Ledger, D: Disk + Drop, R: Radio, P: Port + Drop> Worker<L, D, R, P> {
         ensures { entries_of_seat result ≡ entries_of self }
     {
         match self {
-            Worker::Committing(_committer) => None,
-            Worker::Radio(seat, _slot) => Some(seat),
-            Worker::Control(seat, _port) => Some(seat),
+            Worker::Committing(committer) => {
+                drop(committer);
+                None
+            }
+            Worker::Radio(seat, slot) => {
+                drop(slot);
+                Some(seat)
+            }
+            Worker::Control(seat, port) => {
+                drop(port);
+                Some(seat)
+            }
             Worker::Ticks(seat) => Some(seat),
         }
     }
