@@ -7,7 +7,7 @@ use crate::station_notes::StationNotes;
 use crate::telling_file::TellingFile;
 use crate::telling_radio::TellingRadio;
 use apd_conf::{Conf, Confs};
-use apd_radio::{DriverRadio, Recording, SocketFault, UdpSim};
+use apd_radio::{DriverRadio, Radio, Recording, SocketFault, UdpSim};
 use log::Log;
 use std::alloc::{AllocError, Global};
 use std::fs::File;
@@ -16,8 +16,11 @@ use std::net::Net;
 /// A radio over datagrams: one of whoever is heard last, or one of a driver elsewhere.
 pub type Driven = Either<UdpSim, DriverRadio>;
 
+// A radio of any type that is recorded, or isn't.
+type RecordedAs<'a, L, R> = Either<R, Recording<R, TellingFile<'a, L, File>>>;
+
 /// A radio that is recorded, or isn't.
-pub type Recorded<'a, L> = Either<Driven, Recording<Driven, TellingFile<'a, L, File>>>;
+pub type Recorded<'a, L> = RecordedAs<'a, L, Driven>;
 
 /// A radio of a site.
 pub type SiteRadio<'a, L> = TellingRadio<'a, L, Recorded<'a, L>>;
@@ -80,22 +83,22 @@ pub fn elsewhere_of(
 }
 
 // A radio that is recorded into this file. Why the recording ends is logged.
-fn record<'a, L: Log>(
+fn record<'a, L: Log, R: Radio>(
     log: &'a L,
     alloc: Global,
-    radio: Driven,
+    radio: R,
     recording: RecordingFile,
-) -> Recorded<'a, L> {
+) -> RecordedAs<'a, L, R> {
     let RecordingFile { name, file } = recording;
     Either::Other(Recording::new(alloc, radio, TellingFile::new(log, name, file)))
 }
 
 // Has each radio recorded, the one at a place into the file at that place, which is emptied; or none.
-fn record_radios<'a, L: Log + AllocGlobal>(
+fn record_radios<'a, L: Log + AllocGlobal, R: Radio>(
     rt: &'a L,
-    radios: Vec<Driven>,
+    radios: Vec<R>,
     recordings: Option<Vec<RecordingFile>>,
-) -> Result<Vec<Recorded<'a, L>>, SiteFault> {
+) -> Result<Vec<RecordedAs<'a, L, R>>, SiteFault> {
     let mut recorded = Vec::with_capacity(rt.alloc(), radios.len())?;
     match recordings {
         None => {
@@ -125,13 +128,13 @@ fn station_notes(alloc: Global, conf: &Conf, are_told: bool) -> Option<StationNo
 
 // Has each radio tell of its driver's faults, and of its stations where that is asked for: the one at a place has the
 // interface of the configuration at that place.
-fn tell_of_radios<'a, L: Log>(
+fn tell_of_radios<'a, L: Log, R: Radio>(
     log: &'a L,
     alloc: Global,
     confs: &Confs,
-    radios: Vec<Recorded<'a, L>>,
+    radios: Vec<R>,
     of_stations: bool,
-) -> Result<Vec<SiteRadio<'a, L>>, AllocError> {
+) -> Result<Vec<TellingRadio<'a, L, R>>, AllocError> {
     let mut telling = Vec::with_capacity(alloc, radios.len())?;
     for (radio, conf) in radios.into_iter().zip(confs.list()) {
         let interface = String::from_str(alloc, conf.interface.as_str())?;
@@ -139,6 +142,18 @@ fn tell_of_radios<'a, L: Log>(
         telling.push(TellingRadio::new(log, interface, radio, notes))?;
     }
     Ok(telling)
+}
+
+// As `site_radios`, for radios of any type: the proof is much smaller than one for the types of a site's radios.
+fn radios_of<'a, L: Log + AllocGlobal, R: Radio>(
+    rt: &'a L,
+    confs: &Confs,
+    site: &Site<'_>,
+    radios: Vec<R>,
+    recordings: Option<Vec<RecordingFile>>,
+) -> Result<Vec<TellingRadio<'a, L, RecordedAs<'a, L, R>>>, SiteFault> {
+    let recorded = record_radios(rt, radios, recordings)?;
+    Ok(tell_of_radios(rt, rt.alloc(), confs, recorded, site.logs_stations)?)
 }
 
 /// The radios of a site, each recorded into a file, which is emptied, where there are recordings, and each telling of
@@ -150,6 +165,5 @@ pub fn site_radios<'a, L: Log + AllocGlobal>(
     radios: Vec<Driven>,
     recordings: Option<Vec<RecordingFile>>,
 ) -> Result<Vec<SiteRadio<'a, L>>, SiteFault> {
-    let recorded = record_radios(rt, radios, recordings)?;
-    Ok(tell_of_radios(rt, rt.alloc(), confs, recorded, site.logs_stations)?)
+    radios_of(rt, confs, site, radios, recordings)
 }
