@@ -44,6 +44,16 @@ fn read_list_file<R: Files + AllocGlobal>(
     }
 }
 
+/// What is read of the accept file and the deny file of these names.
+fn read_both_lists<R: Files + AllocGlobal>(
+    rt: &R,
+    accept: &Option<FileName>,
+    deny: &Option<FileName>,
+) -> Result<(Option<Sequence<u8>>, Option<Sequence<u8>>), AllocError> {
+    let accept = read_list_file(rt, accept)?;
+    Ok((accept, read_list_file(rt, deny)?))
+}
+
 /// What is read of the accept file and the deny file that a configuration file names.
 fn read_list_files<R: Files + AllocGlobal>(
     rt: &R,
@@ -52,13 +62,15 @@ fn read_list_files<R: Files + AllocGlobal>(
     let Some(bytes) = file else {
         return Ok((None, None));
     };
-    let conf = match read_conf(rt.alloc(), bytes.as_slice()) {
-        Ok(conf) => conf,
-        Err(ConfFault::NoMemory) => return Err(AllocError),
-        Err(_) => return Ok((None, None)),
-    };
-    let accept = read_list_file(rt, &conf.accept_mac_file)?;
-    Ok((accept, read_list_file(rt, &conf.deny_mac_file)?))
+    match read_conf(rt.alloc(), bytes.as_slice()) {
+        Ok(conf) => {
+            let lists = read_both_lists(rt, &conf.accept_mac_file, &conf.deny_mac_file);
+            drop(conf);
+            lists
+        }
+        Err(ConfFault::NoMemory) => Err(AllocError),
+        Err(_) => Ok((None, None)),
+    }
 }
 
 /// What is read for one radio: the configuration file of this name, and the list files that it names.

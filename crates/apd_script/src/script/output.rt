@@ -5,8 +5,25 @@ use apd_ctrl::{FAIL, escape};
 use apd_mlme::{Out, Recipient};
 use apd_slot::SlotFault;
 use apd_world::{Reception, Told};
-use std::alloc::Global;
+use std::alloc::{AllocError, Global};
 use std::io::{self, Write};
+
+/// Prints a line, if memory sufficed for it.
+fn write_line<W: Write>(writer: &mut W, line: Result<String, AllocError>) -> io::Result<()> {
+    let line = line?;
+    writer.write_all(line.as_bytes())
+}
+
+/// Prints a frame that leaves for the radio of an interface.
+fn write_frame<W: Write>(
+    alloc: Global,
+    writer: &mut W,
+    interface: &InterfaceName,
+    frame: &[u8],
+) -> io::Result<()> {
+    let digits = hex::encode(alloc, frame)?;
+    write_line(writer, format!(in alloc; "{interface} tx {digits}\n"))
+}
 
 /// Prints what leaves for the radio of an interface.
 pub fn write_out<W: Write>(
@@ -15,20 +32,19 @@ pub fn write_out<W: Write>(
     interface: &InterfaceName,
     out: &Out,
 ) -> io::Result<()> {
-    let line = match out {
+    match out {
         Out::Install(addr, aid) => {
             let number = aid.number;
-            format!(in alloc; "{interface} install {addr} {number}\n")?
+            write_line(
+                writer,
+                format!(in alloc; "{interface} install {addr} {number}\n"),
+            )
         }
-        Out::Remove(addr) => format!(in alloc; "{interface} remove {addr}\n")?,
-        Out::Frame(frame) => {
-            let digits = hex::encode(alloc, frame.as_slice())?;
-            format!(in alloc; "{interface} tx {digits}\n")?
-        }
+        Out::Remove(addr) => write_line(writer, format!(in alloc; "{interface} remove {addr}\n")),
+        Out::Frame(frame) => write_frame(alloc, writer, interface, frame.as_slice()),
         // No radio is told a text.
-        Out::Text(..) => return Ok(()),
-    };
-    writer.write_all(line.as_bytes())
+        Out::Text(..) => Ok(()),
+    }
 }
 
 /// Prints what an interface's slot answered to an out: the out, or that it was lost, or that the slot went down.
@@ -39,14 +55,20 @@ pub fn write_applied<W: Write>(
     out: &Out,
     answer: Result<(), SlotFault>,
 ) -> io::Result<()> {
-    let line = match answer {
-        Ok(()) => return write_out(alloc, writer, interface, out),
-        Err(SlotFault::Lost) => format!(in alloc; "{interface} lost\n")?,
-        Err(SlotFault::WentDown) => format!(in alloc; "{interface} down\n")?,
+    match answer {
+        Ok(()) => write_out(alloc, writer, interface, out),
+        Err(SlotFault::Lost) => write_line(writer, format!(in alloc; "{interface} lost\n")),
+        Err(SlotFault::WentDown) => write_line(writer, format!(in alloc; "{interface} down\n")),
         // No text is a radio's, and want of memory is told by no out.
-        Err(SlotFault::NotMine | SlotFault::NoMemory) => return Ok(()),
-    };
-    writer.write_all(line.as_bytes())
+        Err(SlotFault::NotMine | SlotFault::NoMemory) => Ok(()),
+    }
+}
+
+/// Adds the text of a reply to its line, and ends this.
+fn add_text(alloc: Global, line: &mut Vec<u8>, text: &[u8]) -> Result<(), AllocError> {
+    let mut escaped = escape(alloc, text)?;
+    line.append(&mut escaped)?;
+    line.extend_from_slice(b"\n")
 }
 
 /// Prints the reply to the control command of a tag.
@@ -56,10 +78,8 @@ pub fn write_reply<W: Write>(
     tag: u64,
     text: &[u8],
 ) -> io::Result<()> {
-    let front = format!(in alloc; "ctrl {tag} ")?;
-    let mut line = Vec::from_slice(alloc, front.as_bytes())?;
-    line.append(&mut escape(alloc, text)?)?;
-    line.extend_from_slice(b"\n")?;
+    let mut line = format!(in alloc; "ctrl {tag} ")?.into_bytes();
+    add_text(alloc, &mut line, text)?;
     writer.write_all(line.as_slice())
 }
 
@@ -116,12 +136,12 @@ pub fn write_reception<W: Write>(
     answer: Reception,
 ) -> io::Result<()> {
     let line = match answer {
-        Reception::Stopped => format!(in alloc; "stopped\n")?,
-        Reception::Busy => format!(in alloc; "busy\n")?,
-        Reception::Quiet(reason) => format!(in alloc; "quiet {reason}\n")?,
-        Reception::Entry(number) => format!(in alloc; "entry {number}\n")?,
+        Reception::Stopped => format!(in alloc; "stopped\n"),
+        Reception::Busy => format!(in alloc; "busy\n"),
+        Reception::Quiet(reason) => format!(in alloc; "quiet {reason}\n"),
+        Reception::Entry(number) => format!(in alloc; "entry {number}\n"),
     };
-    writer.write_all(line.as_bytes())
+    write_line(writer, line)
 }
 
 /// Prints what the step of a request told.
@@ -153,6 +173,5 @@ pub fn write_command_told<W: Write>(
 
 /// Prints how many station rows a device held.
 pub fn write_recovered<W: Write>(alloc: Global, writer: &mut W, rows: usize) -> io::Result<()> {
-    let line = format!(in alloc; "recovered {rows}\n")?;
-    writer.write_all(line.as_bytes())
+    write_line(writer, format!(in alloc; "recovered {rows}\n"))
 }

@@ -59,10 +59,12 @@ impl<D: Disk + Drop, R: Radio> Runner<D, R> {
         }
     }
 
-    /// Gives the script up, by a fault. Only here is one dropped, since a proof goes through all that it holds.
+    /// Gives the script up, by a fault. Only here is one dropped, and by a call, since a proof goes through all that it
+    /// holds.
     pub fn give_up<T>(self, fault: ScriptFault) -> Result<T, ScriptFault>
         ensures { result ≡ Err fault }
     {
+        drop(self);
         Err(fault)
     }
 

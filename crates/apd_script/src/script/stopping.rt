@@ -44,7 +44,9 @@ fn fresh_slots<R: Radio>(
 fn device_of<D: Disk, R: Radio>(world: World<D, R>) -> D
     ensures { result ≡ device_of (durable_of world) }
 {
-    let (flusher, _core, _slots) = world.into_parts();
+    let (flusher, core, slots) = world.into_parts();
+    drop(core);
+    drop(slots);
     flusher.into_device()
 }
 
