@@ -1,5 +1,5 @@
 //! How a session begins: a device, its configurations, and the world of its store.
-use crate::ending::{say_left, say_left_behind, say_slots};
+use crate::ending::{say_left_behind, say_slots};
 use crate::images::{blank_disk, disk_with_stations, old_disk};
 use crate::saying::{say, say_again, say_refusal};
 use crate::world::{Memory, is_short};
@@ -52,17 +52,27 @@ pub fn old_store(rt: &impl Print, alloc: Global) -> io::Result<MemDisk> {
     make_or_retry(rt, "a device", || old_disk(alloc))
 }
 
+/// Formats a device; where a call of it failed, says why, and what it shows.
+fn format_or_end(rt: &impl Print, alloc: Global, disk: MemDisk) -> io::Result<Option<MemDisk>> {
+    match format_disk(alloc, disk) {
+        Ok(disk) => Ok(Some(disk)),
+        Err((disk, fault)) => {
+            let said = say_refusal(rt, fault);
+            say_left_behind(rt, alloc, said, disk)?;
+            Ok(None)
+        }
+    }
+}
+
 /// A device of a new store; none where a call of it failed, and the session has ended. A format takes no memory but
 /// that in which the device keeps its calls. What the device shows before it is said.
 pub fn new_store(rt: &impl Print, alloc: Global) -> io::Result<Option<MemDisk>> {
     let disk = blank_device(rt, alloc)?;
-    say(rt, "no store")?;
-    match format_disk(alloc, disk) {
-        Ok(disk) => Ok(Some(disk)),
-        Err((disk, fault)) => {
-            say_refusal(rt, fault)?;
-            say_left(rt, alloc, disk)?;
-            Ok(None)
+    match say(rt, "no store") {
+        Ok(()) => format_or_end(rt, alloc, disk),
+        Err(error) => {
+            drop(disk);
+            Err(error)
         }
     }
 }
@@ -114,8 +124,20 @@ fn try_once(
     confs: &Confs,
     slots: Vec<Slot<Sim>>,
 ) -> io::Result<Result<Memory, Refused>> {
-    let copy = copy_confs(rt, alloc, confs)?;
-    Ok(restart_world(alloc, disk, copy, slots))
+    match copy_confs(rt, alloc, confs) {
+        Ok(copy) => Ok(restart_world(alloc, disk, copy, slots)),
+        Err(error) => {
+            drop(slots);
+            drop(disk);
+            Err(error)
+        }
+    }
+}
+
+/// Says that a restart is made once more, and what the slots have that came back.
+fn say_retry(rt: &impl Print, slots: &[Slot<Sim>]) -> io::Result<()> {
+    say_again(rt, "restart")?;
+    say_slots(rt, slots)
 }
 
 /// A restart that lacked memory is made once more, with the device and the slots that came back. What these slots have
@@ -130,9 +152,14 @@ fn try_again(
     if !is_short(fault) {
         return Ok(Err((disk, slots, fault)));
     }
-    say_again(rt, "restart")?;
-    say_slots(rt, &slots)?;
-    try_once(rt, alloc, disk, confs, slots)
+    match say_retry(rt, &slots) {
+        Ok(()) => try_once(rt, alloc, disk, confs, slots),
+        Err(error) => {
+            drop(slots);
+            drop(disk);
+            Err(error)
+        }
+    }
 }
 
 /// Says why a restart is refused, and what the slots have that came back.
@@ -149,6 +176,20 @@ fn say_refused(rt: &impl Print, alloc: Global, refused: Refused) -> io::Result<(
     say_left_behind(rt, alloc, said, disk)
 }
 
+/// With these slots, once more where it lacked memory.
+fn try_with(
+    rt: &impl Print,
+    alloc: Global,
+    disk: MemDisk,
+    confs: &Confs,
+    slots: Vec<Slot<Sim>>,
+) -> io::Result<Result<Memory, Refused>> {
+    match try_once(rt, alloc, disk, confs, slots)? {
+        Err(refused) => try_again(rt, alloc, confs, refused),
+        begun => Ok(begun),
+    }
+}
+
 /// With new slots, once more where it lacked memory.
 fn try_or_retry(
     rt: &impl Print,
@@ -156,10 +197,12 @@ fn try_or_retry(
     disk: MemDisk,
     confs: &Confs,
 ) -> io::Result<Result<Memory, Refused>> {
-    let slots = slots(rt, alloc, confs)?;
-    match try_once(rt, alloc, disk, confs, slots)? {
-        Err(refused) => try_again(rt, alloc, confs, refused),
-        begun => Ok(begun),
+    match slots(rt, alloc, confs) {
+        Ok(slots) => try_with(rt, alloc, disk, confs, slots),
+        Err(error) => {
+            drop(disk);
+            Err(error)
+        }
     }
 }
 

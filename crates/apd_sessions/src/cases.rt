@@ -17,7 +17,10 @@ fn fault_of(
     out: &mut Vec<u8>,
 ) -> Option<ScriptFault> {
     match run_on_store(alloc, disk, confs, script, out) {
-        Ok(_world) => None,
+        Ok(world) => {
+            drop(world);
+            None
+        }
         Err(fault) => Some(fault),
     }
 }

@@ -36,6 +36,21 @@ pub fn say_calls(rt: &impl Print, calls: &[Call]) -> io::Result<()> {
     Ok(())
 }
 
+/// The same behind what was said before, if that could be printed.
+fn recover_behind(
+    alloc: Global,
+    said: io::Result<()>,
+    disk: MemDisk,
+) -> io::Result<(MemDisk, Result<Table, StoreFault>)> {
+    match said {
+        Ok(()) => Ok(recover_table(alloc, disk)),
+        Err(error) => {
+            drop(disk);
+            Err(error)
+        }
+    }
+}
+
 /// The same, once more where the device fails in it, or it lacks memory.
 fn recover_or_retry(
     rt: &impl Print,
@@ -44,12 +59,12 @@ fn recover_or_retry(
 ) -> io::Result<(MemDisk, Result<Table, StoreFault>)> {
     match recover_table(alloc, disk) {
         (disk, Err(StoreFault::NoMemory)) => {
-            say_again(rt, "recover")?;
-            Ok(recover_table(alloc, disk))
+            let said = say_again(rt, "recover");
+            recover_behind(alloc, said, disk)
         }
         (disk, Err(StoreFault::Device)) => {
-            say_refusal(rt, StoreFault::Device)?;
-            Ok(recover_table(alloc, disk))
+            let said = say_refusal(rt, StoreFault::Device);
+            recover_behind(alloc, said, disk)
         }
         recovered => Ok(recovered),
     }
@@ -66,7 +81,10 @@ fn say_found(rt: &impl Print, found: &Result<Table, StoreFault>, calls: &[Call])
 /// lacks memory, it is recovered once more.
 pub fn say_left(rt: &impl Print, alloc: Global, disk: MemDisk) -> io::Result<()> {
     let (disk, found) = recover_or_retry(rt, alloc, disk)?;
-    say_found(rt, &found, disk.calls())
+    let said = say_found(rt, &found, disk.calls());
+    drop(found);
+    drop(disk);
+    said
 }
 
 /// Says whether a slot wants a station, and whether its radio has it: the identifiers.
@@ -93,12 +111,9 @@ pub fn say_slots(rt: &impl Print, slots: &[Slot<Sim>]) -> io::Result<()> {
 /// clause.
 fn parts(world: Memory) -> (MemDisk, u64, bool, Vec<Slot<Sim>>) {
     let (flusher, core, slots) = world.into_parts();
-    (
-        flusher.into_device(),
-        core.number(),
-        core.is_settled(),
-        slots,
-    )
+    let (number, all) = (core.number(), core.is_settled());
+    drop(core);
+    (flusher.into_device(), number, all, slots)
 }
 
 /// Says how many entries are settled and what the slots have.
@@ -116,7 +131,10 @@ pub fn say_left_behind(
 ) -> io::Result<()> {
     match said {
         Ok(()) => say_left(rt, alloc, disk),
-        Err(error) => Err(error),
+        Err(error) => {
+            drop(disk);
+            Err(error)
+        }
     }
 }
 

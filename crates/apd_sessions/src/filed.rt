@@ -1,6 +1,6 @@
 //! What is read of files, and what is printed of a store by a check.
 use crate::beginning::store_with_stations;
-use crate::ending::say_left;
+use crate::ending::say_left_behind;
 use crate::saying::{say, say_again};
 use apd_conf::{ConfigurationFault, Confs};
 use apd_disk::MemDisk;
@@ -86,8 +86,8 @@ pub fn check(rt: &impl Print, alloc: Global) -> io::Result<()> {
     };
     match checked {
         Ok(disk) => {
-            io::writer(rt).write_all(text.as_slice())?;
-            say_left(rt, alloc, disk)
+            let said = io::writer(rt).write_all(text.as_slice());
+            say_left_behind(rt, alloc, said, disk)
         }
         Err(fault) => writeln!(io::writer(rt), "{fault}"),
     }

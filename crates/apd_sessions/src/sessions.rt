@@ -99,6 +99,49 @@ fn serve_session(
     Ok(calls)
 }
 
+/// Ends a session behind its calls, if these could be told of.
+fn end_behind(
+    rt: &impl Print,
+    alloc: Global,
+    world: Memory,
+    served: io::Result<Calls>,
+) -> io::Result<()> {
+    match served {
+        Ok(calls) => end(rt, alloc, world, calls),
+        Err(error) => {
+            drop(world);
+            Err(error)
+        }
+    }
+}
+
+/// A session of a world that has begun.
+fn of_world(
+    rt: &impl Print,
+    alloc: Global,
+    world: Memory,
+    confs: &Confs,
+    session: Session,
+) -> io::Result<()> {
+    let mut world = world;
+    let served = serve_session(rt, &mut world, confs, session);
+    end_behind(rt, alloc, world, served)
+}
+
+/// A session on the store that a device holds.
+fn on_store(
+    rt: &impl Print,
+    alloc: Global,
+    disk: MemDisk,
+    confs: &Confs,
+    session: Session,
+) -> io::Result<()> {
+    match begin(rt, alloc, disk, confs)? {
+        Some(world) => of_world(rt, alloc, world, confs, session),
+        None => Ok(()),
+    }
+}
+
 /// A session on a new store.
 fn on_a_new_store(
     rt: &impl Print,
@@ -106,14 +149,10 @@ fn on_a_new_store(
     confs: &Confs,
     session: Session,
 ) -> io::Result<()> {
-    let Some(disk) = new_store(rt, alloc)? else {
-        return Ok(());
-    };
-    let Some(mut world) = begin(rt, alloc, disk, confs)? else {
-        return Ok(());
-    };
-    let calls = serve_session(rt, &mut world, confs, session)?;
-    end(rt, alloc, world, calls)
+    match new_store(rt, alloc)? {
+        Some(disk) => on_store(rt, alloc, disk, confs, session),
+        None => Ok(()),
+    }
 }
 
 /// A session of the built-in configuration.
@@ -140,13 +179,19 @@ fn start_all(rt: &impl Print, world: &mut Memory) -> io::Result<Calls> {
     Ok(calls)
 }
 
+/// A world that has begun is started by one call.
+fn start_world(rt: &impl Print, alloc: Global, world: Memory) -> io::Result<()> {
+    let mut world = world;
+    let started = start_all(rt, &mut world);
+    end_behind(rt, alloc, world, started)
+}
+
 /// The world of the store that a device holds is started by one call.
 fn start_on(rt: &impl Print, alloc: Global, disk: MemDisk, confs: &Confs) -> io::Result<()> {
-    let Some(mut world) = begin(rt, alloc, disk, confs)? else {
-        return Ok(());
-    };
-    let calls = start_all(rt, &mut world)?;
-    end(rt, alloc, world, calls)
+    match begin(rt, alloc, disk, confs)? {
+        Some(world) => start_world(rt, alloc, world),
+        None => Ok(()),
+    }
 }
 
 /// Two radios with lists start on a new store.

@@ -36,6 +36,12 @@ fn say_change(rt: &impl Print, fault: UpgradeFault, new: &MemDisk, text: &[u8]) 
     say(rt, "changed: upgrade")
 }
 
+/// Says the same, and that the copy is made once more.
+fn say_retry(rt: &impl Print, fault: UpgradeFault, new: &MemDisk, text: &[u8]) -> io::Result<()> {
+    say_change(rt, fault, new, text)?;
+    say_again(rt, "upgrade")
+}
+
 /// A copy that lacked memory is made once more, of the devices that came back.
 fn copy_store_again(
     rt: &impl Print,
@@ -46,9 +52,14 @@ fn copy_store_again(
     let (old, new, fault) = first;
     match fault {
         Some(fault) if lacks_memory(fault) => {
-            say_change(rt, fault, &new, text.as_slice())?;
-            say_again(rt, "upgrade")?;
-            Ok(copy_store(alloc, old, new, text))
+            match say_retry(rt, fault, &new, text.as_slice()) {
+                Ok(()) => Ok(copy_store(alloc, old, new, text)),
+                Err(error) => {
+                    drop(new);
+                    drop(old);
+                    Err(error)
+                }
+            }
         }
         fault => Ok((old, new, fault)),
     }
@@ -85,9 +96,46 @@ fn copy_and_say(rt: &impl Print, alloc: Global, old: MemDisk, new: MemDisk) -> i
     let mut text = Vec::new(alloc);
     let first = copy_store(alloc, old, new, &mut text);
     let (old, new, fault) = copy_store_again(rt, alloc, &mut text, first)?;
-    match say_copied(rt, &old, fault, text.as_slice()) {
+    let said = say_copied(rt, &old, fault, text.as_slice());
+    drop(old);
+    match said {
         Ok(()) => Ok(new),
-        Err(error) => Err(error),
+        Err(error) => {
+            drop(new);
+            Err(error)
+        }
+    }
+}
+
+/// The same behind what was said before, if that could be printed.
+fn copy_behind(
+    rt: &impl Print,
+    alloc: Global,
+    said: io::Result<()>,
+    old: MemDisk,
+    new: MemDisk,
+) -> io::Result<MemDisk> {
+    match said {
+        Ok(()) => copy_and_say(rt, alloc, old, new),
+        Err(error) => {
+            drop(new);
+            drop(old);
+            Err(error)
+        }
+    }
+}
+
+/// A copy of a device into a blank one.
+fn copy_into_blank(rt: &impl Print, alloc: Global, old: MemDisk) -> io::Result<MemDisk> {
+    match blank_device(rt, alloc) {
+        Ok(new) => {
+            let said = say(rt, "no store");
+            copy_behind(rt, alloc, said, old, new)
+        }
+        Err(error) => {
+            drop(old);
+            Err(error)
+        }
     }
 }
 
@@ -95,8 +143,6 @@ fn copy_and_say(rt: &impl Print, alloc: Global, old: MemDisk, new: MemDisk) -> i
 /// has served, also where a call of a device failed.
 pub fn upgrade(rt: &impl Print, alloc: Global) -> io::Result<()> {
     let old = old_store(rt, alloc)?;
-    let new = blank_device(rt, alloc)?;
-    say(rt, "no store")?;
-    let new = copy_and_say(rt, alloc, old, new)?;
+    let new = copy_into_blank(rt, alloc, old)?;
     say_left(rt, alloc, new)
 }

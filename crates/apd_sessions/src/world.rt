@@ -76,8 +76,22 @@ fn tell_or_retry(rt: &impl Print, world: &mut Memory, step: &Step<'_>) -> io::Re
     if !lacks_memory(&told) {
         return Ok(told);
     }
+    drop(told);
     say_lack(rt, step, look(world) == before)?;
     Ok(tell(world, step))
+}
+
+/// Prints what a step told, and what is settled. A call of the device that failed is kept.
+fn say_told(rt: &impl Print, world: &Memory, told: &Told, calls: &mut Calls) -> io::Result<()> {
+    if let Told::Called(Err(fault)) = told {
+        calls.failed = true;
+        return say_refusal(rt, *fault);
+    }
+    writeln!(io::writer(rt), "{told:?}")?;
+    match told {
+        Told::Published(_) => say_table(rt, world.table()),
+        _ => Ok(()),
+    }
 }
 
 /// Makes a step, and prints what it told, and what is settled; none once a call of the device failed.
@@ -86,15 +100,9 @@ fn make(rt: &impl Print, world: &mut Memory, step: &Step<'_>, calls: &mut Calls)
         return Ok(());
     }
     let told = tell_or_retry(rt, world, step)?;
-    if let Told::Called(Err(fault)) = told {
-        calls.failed = true;
-        return say_refusal(rt, fault);
-    }
-    writeln!(io::writer(rt), "{told:?}")?;
-    if let Told::Published(_) = told {
-        say_table(rt, world.table())?;
-    }
-    Ok(())
+    let said = say_told(rt, world, &told, calls);
+    drop(told);
+    said
 }
 
 /// Makes steps in order, until a call of the device fails.
@@ -152,14 +160,21 @@ fn start_or_retry(rt: &impl Print, world: &mut Memory) -> io::Result<Started> {
     }
 }
 
+/// Prints what a start told, each with its recipient, and what is settled.
+fn say_started(rt: &impl Print, world: &Memory, answers: &[(Recipient, Told)]) -> io::Result<()> {
+    for (to, told) in answers {
+        writeln!(io::writer(rt), "{to:?}: {told:?}")?;
+    }
+    say_table(rt, world.table())
+}
+
 /// Starts each interface by one call, and prints what that told, each with its recipient.
 pub fn start(rt: &impl Print, world: &mut Memory, calls: &mut Calls) -> io::Result<()> {
     match start_or_retry(rt, world)? {
         Ok(answers) => {
-            for (to, told) in &answers {
-                writeln!(io::writer(rt), "{to:?}: {told:?}")?;
-            }
-            say_table(rt, world.table())
+            let said = say_started(rt, world, &answers);
+            drop(answers);
+            said
         }
         Err(fault) => {
             calls.failed = true;
