@@ -24,6 +24,11 @@ fn radio(rt: &(impl Abort + Net), alloc: Global) -> (UdpSim, u16) {
     (radio.expect(rt, "a radio"), port)
 }
 
+/// A radio in a box.
+fn boxed(rt: &impl Abort, alloc: Global, one: UdpSim) -> Box<dyn Radio + Send> {
+    Box::new(alloc, one).ok().expect(rt, "memory")
+}
+
 /// Sends a radio a frame of this length, which it gives once, and has the radio send it back.
 fn send_and_answer<R: Radio>(
     rt: &impl Abort,
@@ -75,7 +80,7 @@ fn datagrams_of_every_length(rt: HostRuntime) {
     let mut room = bytes(&rt, alloc, 0, 65_536);
     let other = station(&rt);
     let (one, port) = radio(&rt, alloc);
-    let mut one: Box<dyn Radio + Send> = Box::new(alloc, one).ok().expect(&rt, "memory");
+    let mut one = boxed(&rt, alloc, one);
     exchange(&rt, &mut one, (&other, port), &mut room, &frames);
 }
 
@@ -164,6 +169,13 @@ where
     Slot::new(alloc, radio, BSSID).descriptor()
 }
 
+/// The descriptors of a radio, and of a recording of it that may fail.
+fn recorded_descriptors(alloc: Global, one: UdpSim) -> [Option<RawFd>; 2] {
+    let own = one.descriptor();
+    let one = Recording::new(alloc, Failing::new(one, 1), Vec::<u8>::new(alloc));
+    [own, one.descriptor()]
+}
+
 /// The descriptors of a radio in a box, and of a slot with it.
 fn boxed_descriptors(alloc: Global, one: Box<dyn Radio + Send>) -> [Option<RawFd>; 2] {
     let boxed = one.descriptor();
@@ -174,12 +186,11 @@ fn boxed_descriptors(alloc: Global, one: Box<dyn Radio + Send>) -> [Option<RawFd
 fn each_wrapper_has_the_descriptor_of_the_radio_inside(rt: HostRuntime) {
     let alloc = rt.alloc();
     let (one, _) = radio(&rt, alloc);
-    let own = one.descriptor();
-    let one = Recording::new(alloc, Failing::new(one, 1), Vec::<u8>::new(alloc));
-    let wrapped = one.descriptor();
-    let boxed = Box::new(alloc, one).ok().expect(&rt, "memory");
-    let outer = boxed_descriptors(alloc, boxed);
-    expect(&rt, own.is_some(), true);
-    expect(&rt, (wrapped, outer), (own, [own, own]));
+    let [own, recorded] = recorded_descriptors(alloc, one);
+    expect(&rt, (own.is_some(), recorded), (true, own));
+    let (other, _) = radio(&rt, alloc);
+    let own = other.descriptor();
+    let outer = boxed_descriptors(alloc, boxed(&rt, alloc, other));
+    expect(&rt, (own.is_some(), outer), (true, [own, own]));
     expect(&rt, descriptor_of(alloc, Sim::new(alloc)), None);
 }

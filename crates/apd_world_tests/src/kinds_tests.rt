@@ -144,21 +144,49 @@ fn serving(received: Option<u8>) -> Kept {
 /// What three radios are told while they serve, what is seen of their slots at the stop, and the device.
 type Served = (Vec<Said>, AllKept, MemDisk);
 
-fn serve(alloc: Global, radios: Three) -> Option<Served> {
-    let mut world = start_with(alloc, &[1, 2, 3], slots(alloc, radios)?)?;
-    let tolds = tell(&mut world, &SERVES);
+/// What is told from the thirteenth on.
+fn last_said(alloc: Global, tolds: &[Told]) -> Option<Vec<Said>> {
+    all_said(alloc, tolds.get(12..)?)
+}
+
+/// The same of a world that makes these steps.
+fn makes(
+    alloc: Global,
+    world: &mut World<MemDisk, Boxed>,
+    steps: &[Step<'static>],
+) -> Option<Vec<Said>> {
+    let tolds = tell(world, steps)?;
+    let said = last_said(alloc, &tolds);
+    drop(tolds);
+    said
+}
+
+/// What is told of the last twelve.
+fn serves(alloc: Global, world: &mut World<MemDisk, Boxed>) -> Option<Vec<Said>> {
+    makes(alloc, world, &SERVES)
+}
+
+/// What is seen of the slots of a world that stops, and the device.
+fn stop(world: World<MemDisk, Boxed>) -> (Option<AllKept>, MemDisk) {
     let (flusher, core, mut slots) = parts_of(world);
     drop(core);
     let kept = look_at_three(&mut slots);
     drop(slots);
-    let said = all_said(alloc, tolds?.get(12..)?)?;
-    Some((said, kept?, flusher.into_device()))
+    (kept, flusher.into_device())
+}
+
+fn serve(alloc: Global, radios: Three) -> Option<Served> {
+    let mut world = start_with(alloc, &[1, 2, 3], slots(alloc, radios)?)?;
+    let said = serves(alloc, &mut world);
+    let (kept, device) = stop(world);
+    let ((said, kept), device) = said.zip(kept).zip(Some(device))?;
+    Some((said, kept, device))
 }
 
 /// The world that the device holds, with these radios.
 fn restarted(alloc: Global, device: MemDisk, radios: Three) -> Option<World<MemDisk, Boxed>> {
-    let confs = confs(alloc, &[1, 2, 3])?;
-    restart_world(alloc, device, confs, slots(alloc, radios)?).ok()
+    let (confs, slots) = confs(alloc, &[1, 2, 3]).zip(slots(alloc, radios))?;
+    restart_world(alloc, device, confs, slots).ok()
 }
 
 /// What the other station has at a radio that is given back, and the first byte that it receives.
@@ -183,15 +211,22 @@ fn found(world: World<MemDisk, Boxed>, other: Boxed) -> Option<(Back, AllKept)> 
 
 /// The first run, with one of each kind.
 fn first_run(alloc: Global) -> Option<Served> {
-    let (first, second, third) = (in_memory(alloc)?, recording(alloc)?, replaying(alloc)?);
+    let boxes = in_memory(alloc).zip(recording(alloc));
+    let ((first, second), third) = boxes.zip(replaying(alloc))?;
     serve(alloc, (first, second, third))
 }
 
-/// What is found by the next, in which each slot has another kind, once the second has a third.
+/// The world of the next, in which each slot has another kind.
+fn next_world(alloc: Global, device: MemDisk) -> Option<World<MemDisk, Boxed>> {
+    let boxes = recording(alloc).zip(replaying(alloc));
+    let ((first, second), third) = boxes.zip(in_memory(alloc))?;
+    restarted(alloc, device, (first, second, third))
+}
+
+/// What is found by it, once the second slot has a third kind.
 fn next_run(alloc: Global, device: MemDisk) -> Option<(Back, AllKept)> {
-    let (first, second, third) = (recording(alloc)?, replaying(alloc)?, in_memory(alloc)?);
-    let world = restarted(alloc, device, (first, second, third))?;
-    found(world, in_memory(alloc)?)
+    let (other, world) = in_memory(alloc).zip(next_world(alloc, device))?;
+    found(world, other)
 }
 
 /// What is told of both, and what is seen of the slots.

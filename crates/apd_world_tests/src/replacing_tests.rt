@@ -11,15 +11,21 @@ use apd_table::Table;
 use apd_world::{World, WorldFault};
 use std::alloc::{AllocError, Global};
 
-type Boxed = Box<dyn Radio + Send>;
+/// A radio in memory whose driver may fail.
+type Failable = Failing<Sim>;
 
 /// A radio that passes so many calls on, and fails then.
-fn failing_radio(alloc: Global, calls: u64) -> Failing<Sim> {
+fn failing_radio(alloc: Global, calls: u64) -> Failable {
     Failing::new(Sim::new(alloc), calls)
 }
 
+/// A radio that never fails.
+fn lasting_radio(alloc: Global) -> Failable {
+    failing_radio(alloc, u64::MAX)
+}
+
 /// Slots for two BSSIDs.
-fn slots(alloc: Global, radios: (Boxed, Boxed)) -> Option<Vec<Slot<Boxed>>> {
+fn slots(alloc: Global, radios: (Failable, Failable)) -> Option<Vec<Slot<Failable>>> {
     let mut slots = Vec::new(alloc);
     slots.push(Slot::new(alloc, radios.0, WLAN0)).ok()?;
     slots.push(Slot::new(alloc, radios.1, WLAN1)).ok()?;
@@ -27,7 +33,7 @@ fn slots(alloc: Global, radios: (Boxed, Boxed)) -> Option<Vec<Slot<Boxed>>> {
 }
 
 /// A world whose station went from one radio to the other.
-fn roam(alloc: Global, radios: (Boxed, Boxed)) -> Option<World<MemDisk, Boxed>> {
+fn roam(alloc: Global, radios: (Failable, Failable)) -> Option<World<MemDisk, Failable>> {
     let mut world = start_with(alloc, &[1, 2], slots(alloc, radios)?)?;
     tell(&mut world, &ROAMS).and(Some(world))
 }
@@ -40,24 +46,24 @@ fn identifier(table: &Table, bssid: Bssid) -> Option<u16> {
     }
 }
 
-fn wants_row(table: &Table, slot: &Slot<Boxed>) -> bool {
+fn wants_row(table: &Table, slot: &Slot<Failable>) -> bool {
     slot.wanted(STATION) == identifier(table, slot.bssid())
 }
 
-fn wants_rows(table: &Table, slots: &[Slot<Boxed>]) -> bool {
+fn wants_rows(table: &Table, slots: &[Slot<Failable>]) -> bool {
     slots.iter().all(|slot| wants_row(table, slot))
 }
 
-fn has_row(table: &Table, slot: &Slot<Boxed>) -> bool {
+fn has_row(table: &Table, slot: &Slot<Failable>) -> bool {
     slot.is_up() && slot.installed(STATION) == identifier(table, slot.bssid())
 }
 
-fn has_rows(table: &Table, slots: &[Slot<Boxed>]) -> bool {
+fn has_rows(table: &Table, slots: &[Slot<Failable>]) -> bool {
     slots.iter().all(|slot| has_row(table, slot))
 }
 
 /// Puts another in the place of a BSSID's. Tells whether the one that comes back has no station.
-fn replaces(world: &mut World<MemDisk, Boxed>, bssid: Bssid, other: Boxed) -> bool {
+fn replaces(world: &mut World<MemDisk, Failable>, bssid: Bssid, other: Failable) -> bool {
     match replace_radio(world, bssid, other) {
         Ok(back) => back.installed(STATION).is_none(),
         Err(_) => false,
@@ -65,34 +71,40 @@ fn replaces(world: &mut World<MemDisk, Boxed>, bssid: Bssid, other: Boxed) -> bo
 }
 
 /// The same of both.
-fn replaces_both(world: &mut World<MemDisk, Boxed>, others: (Boxed, Boxed)) -> bool {
+fn replaces_both(world: &mut World<MemDisk, Failable>, others: (Failable, Failable)) -> bool {
     let (first, second) = others;
     let replaced = replaces(world, WLAN0, first);
     replaces(world, WLAN1, second) && replaced
 }
 
-/// Whether the slots want the table's stations, whatever their radios pass on; and whether others that take their place
-/// have them, where those that come back have none.
-fn follows(alloc: Global, radios: (Boxed, Boxed), others: (Boxed, Boxed)) -> Option<[bool; 3]> {
-    let (flusher, core, slots) = parts_of(roam(alloc, radios)?);
-    let wanted = wants_rows(core.table(), &slots);
-    let mut world = join_parts(alloc, flusher, core, slots);
-    let emptied = replaces_both(&mut world, others);
+/// Whether the slots of a world that ends have the table's stations.
+fn ends_with_rows(world: World<MemDisk, Failable>) -> bool {
     let (flusher, core, slots) = parts_of(world);
     drop(flusher);
     let has_rows = has_rows(core.table(), &slots);
     drop(slots);
     drop(core);
-    Some([wanted, emptied, has_rows])
+    has_rows
+}
+
+/// Whether the slots want the table's stations, whatever their radios pass on; and whether others that take their place
+/// have them, where those that come back have none.
+fn follows(
+    alloc: Global,
+    radios: (Failable, Failable),
+    others: (Failable, Failable),
+) -> Option<[bool; 3]> {
+    let (flusher, core, slots) = parts_of(roam(alloc, radios)?);
+    let wanted = wants_rows(core.table(), &slots);
+    let mut world = join_parts(alloc, flusher, core, slots);
+    let emptied = replaces_both(&mut world, others);
+    Some([wanted, emptied, ends_with_rows(world)])
 }
 
 /// The same of a run in which the first radio passes so many calls on, and the second so many.
 fn follows_behind(alloc: Global, first: u64, second: u64) -> Option<[bool; 3]> {
-    let first: Boxed = Box::new(alloc, failing_radio(alloc, first)).ok()?;
-    let second: Boxed = Box::new(alloc, failing_radio(alloc, second)).ok()?;
-    let other: Boxed = Box::new(alloc, Sim::new(alloc)).ok()?;
-    let another: Boxed = Box::new(alloc, Sim::new(alloc)).ok()?;
-    follows(alloc, (first, second), (other, another))
+    let radios = (failing_radio(alloc, first), failing_radio(alloc, second));
+    follows(alloc, radios, (lasting_radio(alloc), lasting_radio(alloc)))
 }
 
 /// The first radio has five calls of that run: two for the frames of the station's answers, one for its installation, one
@@ -135,7 +147,11 @@ fn a_bssid_without_a_slot_gets_no_radio(rt: HostRuntime) -> Result<(), AllocErro
 }
 
 /// What is told where another radio fails, and whether the slots are up.
-fn outcome(alloc: Global, radios: (Boxed, Boxed), other: Boxed) -> Option<(WorldFault, [bool; 2])> {
+fn outcome(
+    alloc: Global,
+    radios: (Failable, Failable),
+    other: Failable,
+) -> Option<(WorldFault, [bool; 2])> {
     let mut world = roam(alloc, radios)?;
     let replaced = replace_radio(&mut world, WLAN1, other);
     let up = [world.is_up(WLAN0), world.is_up(WLAN1)];
@@ -146,10 +162,8 @@ fn outcome(alloc: Global, radios: (Boxed, Boxed), other: Boxed) -> Option<(World
 
 /// The same where it fails at once, and the two before it do not.
 fn outcome_at_once(alloc: Global) -> Option<(WorldFault, [bool; 2])> {
-    let first: Boxed = Box::new(alloc, Sim::new(alloc)).ok()?;
-    let second: Boxed = Box::new(alloc, Sim::new(alloc)).ok()?;
-    let other: Boxed = Box::new(alloc, failing_radio(alloc, 0)).ok()?;
-    outcome(alloc, (first, second), other)
+    let radios = (lasting_radio(alloc), lasting_radio(alloc));
+    outcome(alloc, radios, failing_radio(alloc, 0))
 }
 
 #[test]
@@ -163,37 +177,34 @@ fn a_radio_that_fails_takes_its_slot_down_alone(rt: HostRuntime) {
 }
 
 /// A world whose station went to a radio that fails as it is given it.
-fn roam_to_failing(alloc: Global) -> Option<World<MemDisk, Boxed>> {
-    let first: Boxed = Box::new(alloc, Sim::new(alloc)).ok()?;
-    let second: Boxed = Box::new(alloc, failing_radio(alloc, 1)).ok()?;
-    roam(alloc, (first, second))
+fn roam_to_failing(alloc: Global) -> Option<World<MemDisk, Failable>> {
+    roam(alloc, (lasting_radio(alloc), failing_radio(alloc, 1)))
 }
 
 /// A spare that fails at once, and one that does not.
-fn two_spares(alloc: Global) -> Option<Mending<Boxed>> {
-    let first: Boxed = Box::new(alloc, failing_radio(alloc, 0)).ok()?;
-    let second: Boxed = Box::new(alloc, Sim::new(alloc)).ok()?;
+fn two_spares(alloc: Global) -> Option<Mending<Failable>> {
     let mut spares = Vec::new(alloc);
-    spares.push(first).ok()?;
-    spares.push(second).ok()?;
+    spares.push(failing_radio(alloc, 0)).ok()?;
+    spares.push(lasting_radio(alloc)).ok()?;
     Some(Mending::new(spares))
 }
 
-/// Whether the slot of that radio is up before it is mended by those, whether it has a try then, and whether the slots
+/// Whether the slot of that radio is up before it is mended by these, whether it has a try then, and whether the slots
 /// have the table's stations.
-fn mended(alloc: Global) -> Option<[bool; 3]> {
+fn mended_by(alloc: Global, mending: &mut Mending<Failable>) -> Option<[bool; 3]> {
     let mut world = roam_to_failing(alloc)?;
-    let mut mending = two_spares(alloc)?;
     let up = world.is_up(WLAN1);
-    begins_mending(&mut world, WLAN1, &mut mending);
-    let tried = mends(&mut world, WLAN1, &mut mending);
+    begins_mending(&mut world, WLAN1, mending);
+    let tried = mends(&mut world, WLAN1, mending);
+    Some([up, tried, ends_with_rows(world)])
+}
+
+/// The same by those spares.
+fn mended(alloc: Global) -> Option<[bool; 3]> {
+    let mut mending = two_spares(alloc)?;
+    let mended = mended_by(alloc, &mut mending);
     drop(mending);
-    let (flusher, core, slots) = parts_of(world);
-    drop(flusher);
-    let has_rows = has_rows(core.table(), &slots);
-    drop(slots);
-    drop(core);
-    Some([up, tried, has_rows])
+    mended
 }
 
 #[test]
