@@ -92,6 +92,7 @@ fn hand_out<L: Ledger, W: Wait, R: Radio>(
     mend_slot_first(slot, &mut mending);
     let _handed = hand_to_slot(rt, shared, seat, slot);
     empty(slot, &mut mending);
+    drop(mending);
 }
 
 fn radio_end<L: Ledger, W: Wait>(
@@ -177,6 +178,20 @@ fn end<L: Ledger, W: Wait + Clock>(
     }
 }
 
+// Adds what the workers leave.
+fn end_each<L: Ledger, W: Wait + Clock>(
+    rt: &W,
+    alloc: Global,
+    shared: &Shared<L>,
+    workers: Vec<Worker<'_, L, W>>,
+    left: &mut Left<L>,
+) -> Result<(), AllocError> {
+    for worker in workers {
+        end(rt, alloc, shared, worker, left)?;
+    }
+    Ok(())
+}
+
 /// What the workers leave, in order: the first of them commits.
 pub(crate) fn end_all<L: Ledger, W: Wait + Clock>(
     rt: &W,
@@ -185,8 +200,11 @@ pub(crate) fn end_all<L: Ledger, W: Wait + Clock>(
     workers: Vec<Worker<'_, L, W>>,
 ) -> Result<Left<L>, Fault> {
     let mut left = Left::new(alloc);
-    for worker in workers {
-        end(rt, alloc, shared, worker, &mut left)?;
+    match end_each(rt, alloc, shared, workers, &mut left) {
+        Ok(()) => Ok(left),
+        Err(error) => {
+            drop(left);
+            Err(error.into())
+        }
     }
-    Ok(left)
 }

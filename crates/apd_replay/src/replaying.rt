@@ -6,13 +6,16 @@ use crate::ending::SlotEnd;
 use crate::fault::Fault;
 use crate::generator::Generator;
 use crate::history::{Answered, Entry, History, Quiet, Source};
-use crate::plan::{Plan, station};
+use crate::notes::Lane;
+use crate::plan::{Plan, RadioPlan, station};
+use crate::radio::NotedRadio;
 use crate::running::{Record, Scene, disk, radios, spares, world};
+use crate::stage::Stage;
 use apd_core::Input;
 use apd_ctrl::{Parsed, Placed, parse_command};
 use apd_disk::MemDisk;
 use apd_mlme::{Out, Recipient};
-use apd_slot::Mending;
+use apd_slot::{Mending, Slot};
 use apd_world::{Commit, Reception, Step, Told};
 use std::alloc::Global;
 use std::sync::Wait;
@@ -287,20 +290,55 @@ impl<'a, W: Wait> Replay<'a, W> {
     // The slots are compared at the end.
     fn check_slots(self, record: &Record) -> Result<(), Fault> {
         let Replay {
+            rt: _,
             alloc,
+            plan: _,
+            history: _,
             world,
             slots,
-            ..
+            submitted,
+            replied: _,
+            found,
+            tables,
         } = self;
-        let (_flusher, _core, others) = take_apart(world);
-        for (beside, slot) in slots.iter().zip(others.iter()) {
-            beside.check_slot(alloc, slot)?;
-        }
-        for (beside, associated) in slots.iter().zip(record.associated.iter()) {
-            check_stations(beside.place, beside.end, associated.as_slice())?;
-        }
-        Ok(())
+        drop(submitted);
+        drop(found);
+        drop(tables);
+        let others = slots_of(world);
+        let compared = compare_slots(alloc, slots.as_slice(), others.as_slice(), record);
+        drop(others);
+        drop(slots);
+        compared
     }
+}
+
+// The slots of a world.
+fn slots_of<'a, W: Wait>(world: Replayed<'a, W>) -> Vec<Slot<NotedRadio<'a, W>>> {
+    let (flusher, core, slots) = take_apart(world);
+    drop(flusher);
+    drop(core);
+    slots
+}
+
+// Compares the slots with those of the run.
+fn compare_slots<'a, W: Wait>(
+    alloc: Global,
+    slots: &[Beside<'a, W>],
+    others: &[Slot<NotedRadio<'a, W>>],
+    record: &Record,
+) -> Result<(), Fault> {
+    for (beside, slot) in slots.iter().zip(others.iter()) {
+        beside.check_slot(alloc, slot)?;
+    }
+    compare_stations(slots, record)
+}
+
+// Compares their stations with those of the table.
+fn compare_stations<W: Wait>(slots: &[Beside<'_, W>], record: &Record) -> Result<(), Fault> {
+    for (beside, associated) in slots.iter().zip(record.associated.iter()) {
+        check_stations(beside.place, beside.end, associated.as_slice())?;
+    }
+    Ok(())
 }
 
 // Whether a slot wants the stations that are associated, and its radio has them, if it is up.
@@ -320,6 +358,32 @@ fn not_found(answer: &Answered) -> Fault {
     }
 }
 
+// A slot of a replay.
+fn beside<'a, W: Wait>(
+    rt: &'a W,
+    alloc: Global,
+    stage: &'a Stage,
+    history: &'a History,
+    ends: &'a [SlotEnd],
+    place: usize,
+    radio: &'a RadioPlan,
+    lane: &'a Lane,
+    seeds: &mut Generator,
+) -> Result<Beside<'a, W>, Fault> {
+    let calls = history.calls.get(place).ok_or(Fault::NoThread)?;
+    let end = ends.get(place).ok_or(Fault::NoThread)?;
+    let spares = spares(rt, alloc, stage, radio, lane, seeds, true)?;
+    Ok(Beside {
+        place,
+        radio,
+        lane,
+        calls,
+        end,
+        mending: Mending::new(spares),
+        is_marked: false,
+    })
+}
+
 // The slots of a replay.
 fn slots<'a, W: Wait>(
     rt: &'a W,
@@ -332,20 +396,38 @@ fn slots<'a, W: Wait>(
     let mut slots = Vec::new(alloc);
     let lanes = scene.plan.radios.iter().zip(scene.lanes);
     for (place, (radio, lane)) in lanes.enumerate() {
-        let calls = history.calls.get(place).ok_or(Fault::NoThread)?;
-        let end = ends.get(place).ok_or(Fault::NoThread)?;
-        let spares = spares(rt, alloc, scene.stage, radio, lane, seeds, true)?;
-        slots.push(Beside {
+        let slot = beside(
+            rt,
+            alloc,
+            scene.stage,
+            history,
+            ends,
             place,
             radio,
             lane,
-            calls,
-            end,
-            mending: Mending::new(spares),
-            is_marked: false,
-        })?;
+            seeds,
+        )?;
+        slots.push(slot)?;
     }
     Ok(slots)
+}
+
+// The world of a replay, started.
+fn begin_world<'a, W: Wait>(
+    rt: &'a W,
+    alloc: Global,
+    scene: Scene<'a>,
+    image: &[u8],
+    seeds: &mut Generator,
+) -> Result<Replayed<'a, W>, Fault> {
+    let radios = radios(rt, alloc, scene, seeds, true)?;
+    match disk(alloc, image) {
+        Ok(disk) => world(alloc, disk, scene.plan, radios),
+        Err(error) => {
+            drop(radios);
+            Err(error.into())
+        }
+    }
 }
 
 // A replay of a history, at its beginning.
@@ -358,21 +440,27 @@ fn begin<'a, W: Wait>(
     ends: &'a [SlotEnd],
 ) -> Result<Replay<'a, W>, Fault> {
     let mut seeds = Generator::new(0);
-    let radios = radios(rt, alloc, scene, &mut seeds, true)?;
-    let world = world(alloc, disk(alloc, image)?, scene.plan, radios)?;
     let found = vec![in alloc; false; history.answers.len()]?;
-    Ok(Replay {
-        rt,
-        alloc,
-        plan: scene.plan,
-        history,
-        world,
-        slots: slots(rt, alloc, scene, history, ends, &mut seeds)?,
-        submitted: vec![in alloc; false; history.quiet.len()]?,
-        replied: 0,
-        found,
-        tables: Vec::new(alloc),
-    })
+    let submitted = vec![in alloc; false; history.quiet.len()]?;
+    let world = begin_world(rt, alloc, scene, image, &mut seeds)?;
+    match slots(rt, alloc, scene, history, ends, &mut seeds) {
+        Ok(slots) => Ok(Replay {
+            rt,
+            alloc,
+            plan: scene.plan,
+            history,
+            world,
+            slots,
+            submitted,
+            replied: 0,
+            found,
+            tables: Vec::new(alloc),
+        }),
+        Err(fault) => {
+            drop(world);
+            Err(fault)
+        }
+    }
 }
 
 /// The sum of the table that a stop leaves on a device.
@@ -411,6 +499,11 @@ pub(crate) fn compare<W: Wait>(
 ) -> Result<(), Fault> {
     let ends = record.slots.as_slice();
     let mut replay = begin(rt, alloc, scene, image, history, ends)?;
-    replay_and_check(&mut replay, record, left)?;
-    replay.check_slots(record)
+    match replay_and_check(&mut replay, record, left) {
+        Ok(()) => replay.check_slots(record),
+        Err(fault) => {
+            drop(replay);
+            Err(fault)
+        }
+    }
 }

@@ -17,6 +17,7 @@ use crate::radio::{Feed, Noted, NotedRadio};
 use crate::stage::Stage;
 use crate::working::{Environment, Host, PortPart, RadioPart, Worker};
 use apd_base::{Addr, Bssid, Station};
+use apd_conf::Confs;
 use apd_core::Core;
 use apd_desk::{Seat, Shared};
 use apd_disk::{Disk, MemDisk};
@@ -139,7 +140,29 @@ fn started<D: Disk + Drop, R: Radio>(world: World<D, R>) -> Result<World<D, R>, 
     if start_world(&mut world) {
         Ok(world)
     } else {
+        drop(world);
         Err(Fault::NoStart)
+    }
+}
+
+// The world of a store, with the slots of these radios, started.
+fn world_of<'a, D: Disk + Drop, W: Wait>(
+    alloc: Global,
+    disk: D,
+    confs: Confs,
+    radios: Vec<NotedRadio<'a, W>>,
+) -> Result<World<D, NotedRadio<'a, W>>, Fault> {
+    let slots = match slots_for(alloc, &confs, radios) {
+        Ok(slots) => slots,
+        Err(error) => {
+            drop(disk);
+            drop(confs);
+            return Err(error.into());
+        }
+    };
+    match restart_world(alloc, disk, confs, slots) {
+        Some(world) => started(world),
+        None => Err(Fault::NoStore),
     }
 }
 
@@ -150,11 +173,13 @@ pub(crate) fn world<'a, D: Disk + Drop, W: Wait>(
     plan: &Plan,
     radios: Vec<NotedRadio<'a, W>>,
 ) -> Result<World<D, NotedRadio<'a, W>>, Fault> {
-    let confs = plan.confs.copy(alloc)?;
-    let slots = slots_for(alloc, &confs, radios)?;
-    match restart_world(alloc, disk, confs, slots) {
-        Some(world) => started(world),
-        None => Err(Fault::NoStore),
+    match plan.confs.copy(alloc) {
+        Ok(confs) => world_of(alloc, disk, confs, radios),
+        Err(error) => {
+            drop(disk);
+            drop(radios);
+            Err(error.into())
+        }
     }
 }
 
@@ -198,6 +223,26 @@ fn seat<L: Ledger, W: Wait>(rt: &W, shared: &Shared<L>) -> Result<Seat<L>, Fault
     shared.seat(rt).ok_or(Fault::NoSeat)
 }
 
+// The seat of the worker of a radio, and the radios that stand by.
+fn seat_and_spares<'a, L: Ledger, W: Wait>(
+    rt: &'a W,
+    alloc: Global,
+    shared: &Shared<L>,
+    scene: Scene<'a>,
+    radio: &'a RadioPlan,
+    lane: &'a Lane,
+    seeds: &mut Generator,
+) -> Result<(Seat<L>, Vec<NotedRadio<'a, W>>), Fault> {
+    let seat = seat(rt, shared)?;
+    match spares(rt, alloc, scene.stage, radio, lane, seeds, false) {
+        Ok(spares) => Ok((seat, spares)),
+        Err(error) => {
+            drop(seat);
+            Err(error.into())
+        }
+    }
+}
+
 // The worker of a radio.
 fn radio_part<'a, L: Ledger, W: Wait>(
     rt: &'a W,
@@ -210,14 +255,31 @@ fn radio_part<'a, L: Ledger, W: Wait>(
     seeds: &mut Generator,
 ) -> Result<Worker<'a, L, W>, Fault> {
     shared.note(rt, slot.bssid(), slot.is_up());
-    let part = RadioPart {
-        seat: seat(rt, shared)?,
-        slot,
-        spares: spares(rt, alloc, scene.stage, radio, lane, seeds, false)?,
-        clock: clock(rt, scene, lane, seeds),
-        gate: gate(rt, shared, scene, lane, seeds),
-    };
-    Ok(Worker::Radio(part))
+    match seat_and_spares(rt, alloc, shared, scene, radio, lane, seeds) {
+        Ok((seat, spares)) => Ok(Worker::Radio(RadioPart {
+            seat,
+            slot,
+            spares,
+            clock: clock(rt, scene, lane, seeds),
+            gate: gate(rt, shared, scene, lane, seeds),
+        })),
+        Err(fault) => {
+            drop(slot);
+            Err(fault)
+        }
+    }
+}
+
+// The seats of the worker of the port: its own, and the port's.
+fn both_seats<L: Ledger, W: Wait>(rt: &W, shared: &Shared<L>) -> Result<(Seat<L>, Seat<L>), Fault> {
+    let of_port = seat(rt, shared)?;
+    match seat(rt, shared) {
+        Ok(own) => Ok((own, of_port)),
+        Err(fault) => {
+            drop(of_port);
+            Err(fault)
+        }
+    }
 }
 
 fn control_part<'a, L: Ledger, W: Wait>(
@@ -228,11 +290,12 @@ fn control_part<'a, L: Ledger, W: Wait>(
     lane: &'a Lane,
     seeds: &mut Generator,
 ) -> Result<Worker<'a, L, W>, Fault> {
+    let (seat, of_port) = both_seats(rt, shared)?;
     let port = NotedPort {
         rt,
         alloc,
         shared,
-        seat: seat(rt, shared)?,
+        seat: of_port,
         stage: scene.stage,
         lane,
         lanes: scene.lanes,
@@ -243,7 +306,7 @@ fn control_part<'a, L: Ledger, W: Wait>(
         told: None,
     };
     Ok(Worker::Control(PortPart {
-        seat: seat(rt, shared)?,
+        seat,
         port,
         clock: clock(rt, scene, lane, seeds),
         gate: gate(rt, shared, scene, lane, seeds),
@@ -257,6 +320,7 @@ fn tick_part<'a, L: Ledger, W: Wait>(
     lane: &'a Lane,
     seeds: &mut Generator,
 ) -> Result<Worker<'a, L, W>, Fault> {
+    let seat = seat(rt, shared)?;
     let clock = TickClock {
         rt,
         stage: scene.stage,
@@ -267,7 +331,28 @@ fn tick_part<'a, L: Ledger, W: Wait>(
         asked: AtomicU64::new(0),
     };
     let gate = gate(rt, shared, scene, lane, seeds);
-    Ok(Worker::Ticks(seat(rt, shared)?, clock, gate))
+    Ok(Worker::Ticks(seat, clock, gate))
+}
+
+// Adds the worker of a radio.
+fn add_radio<'a, L: Ledger, W: Wait>(
+    rt: &'a W,
+    alloc: Global,
+    shared: &'a Shared<L>,
+    scene: Scene<'a>,
+    radio: &'a RadioPlan,
+    lane: Option<&'a Lane>,
+    slot: Slot<NotedRadio<'a, W>>,
+    seeds: &mut Generator,
+    workers: &mut Vec<Worker<'a, L, W>>,
+) -> Result<(), Fault> {
+    let Some(lane) = lane else {
+        drop(slot);
+        return Err(Fault::NoThread);
+    };
+    let part = radio_part(rt, alloc, shared, scene, radio, lane, slot, seeds)?;
+    workers.push(part)?;
+    Ok(())
 }
 
 // Adds the workers of the port, of ticks and of the radios.
@@ -282,15 +367,33 @@ fn add_others<'a, L: Ledger, W: Wait>(
 ) -> Result<(), Fault> {
     let mut lanes = scene.lanes.iter();
     for (slot, radio) in slots.into_iter().zip(scene.plan.radios.iter()) {
-        let lane = lanes.next().ok_or(Fault::NoThread)?;
-        let part = radio_part(rt, alloc, shared, scene, radio, lane, slot, seeds)?;
-        workers.push(part)?;
+        let lane = lanes.next();
+        add_radio(rt, alloc, shared, scene, radio, lane, slot, seeds, workers)?;
     }
     let lane = lanes.next().ok_or(Fault::NoThread)?;
     workers.push(control_part(rt, alloc, shared, scene, lane, seeds)?)?;
     let lane = lanes.next().ok_or(Fault::NoThread)?;
     workers.push(tick_part(rt, shared, scene, lane, seeds)?)?;
     Ok(())
+}
+
+// The worker that commits, alone.
+fn committing<'a, L: Ledger, W: Wait>(
+    rt: &'a W,
+    alloc: Global,
+    shared: &'a Shared<L>,
+    scene: Scene<'a>,
+    flusher: Flusher<Device<'a, W>>,
+    seeds: &mut Generator,
+) -> Result<Vec<Worker<'a, L, W>>, Fault> {
+    let Some(lane) = scene.lanes.last() else {
+        drop(flusher);
+        return Err(Fault::NoThread);
+    };
+    let gate = gate(rt, shared, scene, lane, seeds);
+    let mut workers = Vec::new(alloc);
+    workers.push(Worker::Committing(Committer::new(flusher), gate))?;
+    Ok(workers)
 }
 
 // The workers: the first one commits.
@@ -303,12 +406,20 @@ fn crew<'a, L: Ledger, W: Wait>(
     slots: Vec<Slot<NotedRadio<'a, W>>>,
     seeds: &mut Generator,
 ) -> Result<Vec<Worker<'a, L, W>>, Fault> {
-    let mut workers = Vec::new(alloc);
-    let lane = scene.lanes.last().ok_or(Fault::NoThread)?;
-    let gate = gate(rt, shared, scene, lane, seeds);
-    workers.push(Worker::Committing(Committer::new(flusher), gate))?;
-    add_others(rt, alloc, shared, scene, slots, seeds, &mut workers)?;
-    Ok(workers)
+    let mut workers = match committing(rt, alloc, shared, scene, flusher, seeds) {
+        Ok(workers) => workers,
+        Err(fault) => {
+            drop(slots);
+            return Err(fault);
+        }
+    };
+    match add_others(rt, alloc, shared, scene, slots, seeds, &mut workers) {
+        Ok(()) => Ok(workers),
+        Err(fault) => {
+            drop(workers);
+            Err(fault)
+        }
+    }
 }
 
 // The threads work until a stop, and what they leave is committed and handed out.
@@ -377,6 +488,20 @@ fn keep(
     })
 }
 
+// What is kept, with what the device holds.
+fn with_disk(
+    record: Result<Record, Fault>,
+    disk: Option<MemDisk>,
+) -> Result<(Record, Option<MemDisk>), Fault> {
+    match record {
+        Ok(record) => Ok((record, disk)),
+        Err(fault) => {
+            drop(disk);
+            Err(fault)
+        }
+    }
+}
+
 fn close<L: Ledger>(
     alloc: Global,
     begin: u64,
@@ -387,8 +512,17 @@ fn close<L: Ledger>(
 {
     let Left { seats, slots, disk } = left;
     match shared.close(seats) {
-        Ok((core, entries)) => Ok((keep(alloc, begin, &core, entries, slots)?, disk)),
-        Err(_missing) => Err(Fault::NoSeat),
+        Ok((core, entries)) => {
+            let record = keep(alloc, begin, &core, entries, slots);
+            drop(core);
+            with_disk(record, disk)
+        }
+        Err(missing) => {
+            drop(missing);
+            drop(slots);
+            drop(disk);
+            Err(Fault::NoSeat)
+        }
     }
 }
 
@@ -408,8 +542,33 @@ fn run_over_ledger<'a, L: Ledger + Send + Sync, W: Host>(
     let (flusher, core, slots) = take_apart(world);
     let begin = core.number();
     let shared = Shared::<L>::new(core, blank);
-    let left = work(rt, alloc, &shared, scene, flusher, slots, seeds)?;
-    close(alloc, begin, shared, left)
+    match work(rt, alloc, &shared, scene, flusher, slots, seeds) {
+        Ok(left) => close(alloc, begin, shared, left),
+        Err(fault) => {
+            drop(shared);
+            Err(fault)
+        }
+    }
+}
+
+// The world of a run, started.
+fn run_world<'a, W: Wait>(
+    rt: &'a W,
+    alloc: Global,
+    scene: Scene<'a>,
+    image: &[u8],
+    seeds: &mut Generator,
+) -> Result<World<Device<'a, W>, NotedRadio<'a, W>>, Fault> {
+    let lane = scene.lanes.last().ok_or(Fault::NoThread)?;
+    let disk = disk(alloc, image)?;
+    let device = device(rt, lane, disk, scene.plan.device, seeds.number());
+    match radios(rt, alloc, scene, seeds, false) {
+        Ok(radios) => world(alloc, device, scene.plan, radios),
+        Err(error) => {
+            drop(device);
+            Err(error.into())
+        }
+    }
 }
 
 /// Runs a plan on a store: its workers work in threads until a stop, and what they leave is committed and handed out.
@@ -421,10 +580,6 @@ pub(crate) fn run<W: Host>(
     image: &[u8],
 ) -> Result<(Record, Option<MemDisk>), Fault> {
     let mut seeds = Generator::new(scene.plan.seed.wrapping_add(1));
-    let lane = scene.lanes.last().ok_or(Fault::NoThread)?;
-    let disk = disk(alloc, image)?;
-    let device = device(rt, lane, disk, scene.plan.device, seeds.number());
-    let radios = radios(rt, alloc, scene, &mut seeds, false)?;
-    let world = world(alloc, device, scene.plan, radios)?;
+    let world = run_world(rt, alloc, scene, image, &mut seeds)?;
     run_over_ledger::<Brand, W>(rt, alloc, Blank::new(65_536), scene, world, &mut seeds)
 }
