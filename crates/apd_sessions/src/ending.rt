@@ -36,7 +36,7 @@ pub fn say_calls(rt: &impl Print, calls: &[Call]) -> io::Result<()> {
     Ok(())
 }
 
-/// The same behind what was said before, if that could be printed.
+/// A device, and what a recovery finds on it, once what was said before could be printed.
 fn recover_behind(
     alloc: Global,
     said: io::Result<()>,
@@ -51,7 +51,7 @@ fn recover_behind(
     }
 }
 
-/// The same, once more where the device fails in it, or it lacks memory.
+/// A device, and what a recovery finds on it, made once more where the device fails in it, or it lacks memory.
 fn recover_or_retry(
     rt: &impl Print,
     alloc: Global,

@@ -179,8 +179,8 @@ fn start_all(rt: &impl Print, world: &mut Memory) -> io::Result<Calls> {
     Ok(calls)
 }
 
-/// A world that has begun is started by one call.
-fn start_world(rt: &impl Print, alloc: Global, world: Memory) -> io::Result<()> {
+/// Starts each interface of a world that has begun by one call, and ends the session.
+fn start_and_end(rt: &impl Print, alloc: Global, world: Memory) -> io::Result<()> {
     let mut world = world;
     let started = start_all(rt, &mut world);
     end_behind(rt, alloc, world, started)
@@ -189,7 +189,7 @@ fn start_world(rt: &impl Print, alloc: Global, world: Memory) -> io::Result<()> 
 /// The world of the store that a device holds is started by one call.
 fn start_on(rt: &impl Print, alloc: Global, disk: MemDisk, confs: &Confs) -> io::Result<()> {
     match begin(rt, alloc, disk, confs)? {
-        Some(world) => start_world(rt, alloc, world),
+        Some(world) => start_and_end(rt, alloc, world),
         None => Ok(()),
     }
 }

@@ -81,7 +81,7 @@ fn tell_or_retry(rt: &impl Print, world: &mut Memory, step: &Step<'_>) -> io::Re
     Ok(tell(world, step))
 }
 
-/// Prints what a step told, and what is settled. A call of the device that failed is kept.
+/// Prints what a step told, and what is settled. That a call of the device failed is noted in `calls`.
 fn say_told(rt: &impl Print, world: &Memory, told: &Told, calls: &mut Calls) -> io::Result<()> {
     if let Told::Called(Err(fault)) = told {
         calls.failed = true;
