@@ -1,7 +1,7 @@
 //! How a session begins: a device, its configurations, and the world of its store.
 use crate::ending::{say_left_behind, say_slots};
-use crate::images::{blank_disk, disk_with_stations, old_disk};
-use crate::saying::{say, say_again, say_refusal};
+use crate::images::{Image, disk_with};
+use crate::saying::{say, say_again};
 use crate::world::{Memory, is_short};
 use apd_base::Moment;
 use apd_conf::{Conf, Confs};
@@ -11,7 +11,7 @@ use apd_slot::Slot;
 use apd_store::{StoreFault, format};
 use apd_world::{WorldFault, restart, slots_for};
 use std::alloc::{AllocError, Global};
-use std::io::{self, Write};
+use std::io;
 
 /// What a restart that is refused hands back, and why it is.
 type Refused = (MemDisk, Vec<Slot<Sim>>, WorldFault);
@@ -20,36 +20,15 @@ fn format_disk(alloc: Global, disk: MemDisk) -> Result<MemDisk, (MemDisk, StoreF
     Ok(format(alloc, disk)?.into_device())
 }
 
-/// Makes something, where it lacks memory once more.
-fn make_or_retry<T, F: Fn() -> Result<T, AllocError>>(
-    rt: &impl Print,
-    what: &str,
-    make: F,
-) -> io::Result<T>
-    requires { F.IsAlwaysCallable make }
-{
-    match make() {
-        Ok(value) => Ok(value),
+/// A device that holds this, made once more where memory lacked.
+pub fn device(rt: &impl Print, alloc: Global, image: Image) -> io::Result<MemDisk> {
+    match disk_with(alloc, image) {
+        Ok(disk) => Ok(disk),
         Err(_) => {
-            say_again(rt, what)?;
-            Ok(make()?)
+            say_again(rt, "a device")?;
+            Ok(disk_with(alloc, image)?)
         }
     }
-}
-
-/// A blank device.
-pub fn blank_device(rt: &impl Print, alloc: Global) -> io::Result<MemDisk> {
-    make_or_retry(rt, "a device", || blank_disk(alloc))
-}
-
-/// A device with stations of two radios.
-pub fn store_with_stations(rt: &impl Print, alloc: Global) -> io::Result<MemDisk> {
-    make_or_retry(rt, "a device", || disk_with_stations(alloc))
-}
-
-/// A device of a store of version 1.
-pub fn old_store(rt: &impl Print, alloc: Global) -> io::Result<MemDisk> {
-    make_or_retry(rt, "a device", || old_disk(alloc))
 }
 
 /// Formats a device; where a call of it failed, says why, and what it shows.
@@ -57,7 +36,7 @@ fn format_or_end(rt: &impl Print, alloc: Global, disk: MemDisk) -> io::Result<Op
     match format_disk(alloc, disk) {
         Ok(disk) => Ok(Some(disk)),
         Err((disk, fault)) => {
-            let said = say_refusal(rt, fault);
+            let said = say(rt, fault);
             say_left_behind(rt, alloc, said, disk)?;
             Ok(None)
         }
@@ -67,7 +46,7 @@ fn format_or_end(rt: &impl Print, alloc: Global, disk: MemDisk) -> io::Result<Op
 /// A device of a new store; none where a call of it failed, and the session has ended. A format takes no memory but
 /// that in which the device keeps its calls. What the device shows before it is said.
 pub fn new_store(rt: &impl Print, alloc: Global) -> io::Result<Option<MemDisk>> {
-    let disk = blank_device(rt, alloc)?;
+    let disk = device(rt, alloc, Image::Blank)?;
     match say(rt, "no store") {
         Ok(()) => format_or_end(rt, alloc, disk),
         Err(error) => {
@@ -83,10 +62,20 @@ fn new_list(alloc: Global) -> Result<Vec<Conf>, AllocError> {
     Ok(list)
 }
 
+/// The list of the built-in configuration alone, made once more where memory lacked.
+fn list(rt: &impl Print, alloc: Global) -> io::Result<Vec<Conf>> {
+    match new_list(alloc) {
+        Ok(list) => Ok(list),
+        Err(_) => {
+            say_again(rt, "the configuration")?;
+            Ok(new_list(alloc)?)
+        }
+    }
+}
+
 /// The built-in configuration alone.
 pub fn new_confs(rt: &impl Print, alloc: Global) -> io::Result<Option<Confs>> {
-    let list = make_or_retry(rt, "the configuration", || new_list(alloc))?;
-    Ok(Confs::new(list).ok())
+    Ok(Confs::new(list(rt, alloc)?).ok())
 }
 
 /// A slot for each interface, with a radio that does nothing.
@@ -98,12 +87,31 @@ fn new_slots(alloc: Global, confs: &Confs) -> Result<Vec<Slot<Sim>>, AllocError>
     slots_for(alloc, confs, radios)
 }
 
+/// The same, made once more where memory lacked.
 fn slots(rt: &impl Print, alloc: Global, confs: &Confs) -> io::Result<Vec<Slot<Sim>>> {
-    make_or_retry(rt, "slots", || new_slots(alloc, confs))
+    match new_slots(alloc, confs) {
+        Ok(slots) => Ok(slots),
+        Err(_) => {
+            say_again(rt, "slots")?;
+            Ok(new_slots(alloc, confs)?)
+        }
+    }
 }
 
+/// The call, without a clause.
+fn copy(alloc: Global, confs: &Confs) -> Result<Confs, AllocError> {
+    confs.copy(alloc)
+}
+
+/// A copy of configurations, made once more where memory lacked.
 fn copy_confs(rt: &impl Print, alloc: Global, confs: &Confs) -> io::Result<Confs> {
-    make_or_retry(rt, "a copy of the configurations", || confs.copy(alloc))
+    match copy(alloc, confs) {
+        Ok(copied) => Ok(copied),
+        Err(_) => {
+            say_again(rt, "a copy of the configurations")?;
+            Ok(copy(alloc, confs)?)
+        }
+    }
 }
 
 /// The world of a store, without a clause.
@@ -164,7 +172,7 @@ fn try_again(
 
 /// Says why a restart is refused, and what the slots have that came back.
 fn say_fault(rt: &impl Print, fault: WorldFault, slots: &[Slot<Sim>]) -> io::Result<()> {
-    writeln!(io::writer(rt), "{fault}")?;
+    say(rt, fault)?;
     say_slots(rt, slots)
 }
 

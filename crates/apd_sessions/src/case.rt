@@ -25,6 +25,19 @@ fn add(text: &mut String, line: &str) -> Result<(), AllocError> {
     text.push('\n')
 }
 
+/// Adds the names of files that a text has.
+fn add_names<'t>(files: &mut Vec<&'t str>, names: &'t str) -> Result<(), AllocError> {
+    for name in names.split_whitespace() {
+        files.push(name)?;
+    }
+    Ok(())
+}
+
+/// A text without the blank that it may begin with.
+fn without_blank(text: &str) -> &str {
+    text.strip_prefix(" ").unwrap_or(text)
+}
+
 impl<'t> Case<'t> {
     /// A case of which the title is read.
     pub fn new(alloc: Global, title: &'t str) -> Case<'t> {
@@ -39,15 +52,14 @@ impl<'t> Case<'t> {
     /// Reads another of its lines.
     pub fn read(&mut self, line: &'t str) -> Result<(), AllocError> {
         if let Some(names) = line.strip_prefix(": ") {
-            for name in names.split_whitespace() {
-                self.files.push(name)?;
-            }
+            return add_names(&mut self.files, names);
+        }
+        if let Some(script) = line.strip_prefix(">") {
+            return add(&mut self.script, without_blank(script));
+        }
+        if line.is_empty() || line.starts_with("#") {
             return Ok(());
         }
-        match line.strip_prefix(">") {
-            Some(script) => add(&mut self.script, script.strip_prefix(" ").unwrap_or(script)),
-            None if line.is_empty() || line.starts_with("#") => Ok(()),
-            None => add(&mut self.wanted, line),
-        }
+        add(&mut self.wanted, line)
     }
 }

@@ -49,6 +49,12 @@ fn output_of<R: Files<File = File> + AllocGlobal>(rt: &R, case: &Case<'_>) -> io
     }
 }
 
+/// Prints that a case printed something else than it should.
+fn print_difference(rt: &impl Print, title: &str, told: &[u8]) -> io::Result<()> {
+    println!(rt; "  DIFFERS: {title}")?;
+    rt.write_all(told)
+}
+
 /// Runs a case, prints its title and whether it printed what it should, and else what it did; and tells whether.
 fn print_case<R: Print + Files<File = File> + AllocGlobal>(
     rt: &R,
@@ -56,12 +62,13 @@ fn print_case<R: Print + Files<File = File> + AllocGlobal>(
 ) -> io::Result<bool> {
     let told = output_of(rt, case)?;
     let holds = told.as_slice() == case.wanted.as_bytes();
-    if holds {
-        writeln!(io::writer(rt), "  {}", case.title)?;
+    let said = if holds {
+        println!(rt; "  {}", case.title)
     } else {
-        writeln!(io::writer(rt), "  DIFFERS: {}", case.title)?;
-        io::writer(rt).write_all(told.as_slice())?;
-    }
+        print_difference(rt, case.title, told.as_slice())
+    };
+    drop(told);
+    said?;
     Ok(holds)
 }
 
@@ -71,24 +78,55 @@ fn run_case<R: Print + Files<File = File> + AllocGlobal>(
     case: Option<Case<'_>>,
 ) -> io::Result<bool> {
     match case {
-        Some(case) => print_case(rt, &case),
+        Some(case) => {
+            let holds = print_case(rt, &case);
+            drop(case);
+            holds
+        }
         None => Ok(true),
     }
 }
 
+/// Reads another line of a text: the next case, or a line of this one. Tells whether the case before the next printed
+/// what it should.
+fn read_line<'t, R: Print + Files<File = File> + AllocGlobal>(
+    rt: &R,
+    case: &mut Option<Case<'t>>,
+    line: &'t str,
+) -> io::Result<bool> {
+    if let Some(title) = line.strip_prefix("= ") {
+        let before = case.replace(Case::new(rt.alloc(), title));
+        return run_case(rt, before);
+    }
+    if let Some(case) = case {
+        case.read(line)?;
+    }
+    Ok(true)
+}
+
+/// Runs the cases of a text but for the last, which is left, and tells whether each printed what it should.
+fn hold_so_far<'t, R: Print + Files<File = File> + AllocGlobal>(
+    rt: &R,
+    text: &'t str,
+    case: &mut Option<Case<'t>>,
+) -> io::Result<bool> {
+    let mut all = true;
+    for line in text.lines() {
+        all &= read_line(rt, case, line)?;
+    }
+    Ok(all)
+}
+
 /// Runs the cases of a text, and tells whether each printed what it should.
 fn all_hold<R: Print + Files<File = File> + AllocGlobal>(rt: &R, text: &str) -> io::Result<bool> {
-    let mut all = true;
     let mut case = None;
-    for line in text.lines() {
-        if let Some(title) = line.strip_prefix("= ") {
-            let before = case.replace(Case::new(rt.alloc(), title));
-            all &= run_case(rt, before)?;
-        } else if let Some(case) = &mut case {
-            case.read(line)?;
+    match hold_so_far(rt, text, &mut case) {
+        Ok(all) => Ok(run_case(rt, case)? && all),
+        Err(error) => {
+            drop(case);
+            Err(error)
         }
     }
-    Ok(run_case(rt, case)? && all)
 }
 
 /// Runs the cases of the file of this name, and tells whether each printed what it should.
@@ -97,6 +135,6 @@ pub fn run_cases<R: Print + Files<File = File> + AllocGlobal>(
     name: &str,
 ) -> io::Result<bool> {
     let text = fs::read_to_string(rt, name)?;
-    writeln!(io::writer(rt), "{name}:")?;
+    println!(rt; "{name}:")?;
     all_hold(rt, text.as_str())
 }

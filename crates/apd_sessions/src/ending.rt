@@ -1,6 +1,6 @@
 //! How a session ends: what its device holds, and what its slots have.
 use crate::requests::{ANOTHER, STATION};
-use crate::saying::{say, say_again, say_refusal, say_table};
+use crate::saying::{say, say_again, say_table};
 use crate::world::{Calls, Memory};
 use apd_base::Addr;
 use apd_disk::{Call, MemDisk};
@@ -9,7 +9,7 @@ use apd_slot::Slot;
 use apd_store::{StoreFault, recover};
 use apd_table::Table;
 use std::alloc::Global;
-use std::io::{self, Write};
+use std::io;
 
 /// A device, and the table that a recovery of it finds, without a clause.
 fn recover_table(alloc: Global, disk: MemDisk) -> (MemDisk, Result<Table, StoreFault>) {
@@ -24,14 +24,14 @@ fn say_shown(rt: &impl Print, found: &Result<Table, StoreFault>) -> io::Result<(
     match found {
         Ok(table) => say_table(rt, table),
         Err(StoreFault::NotAStore) => say(rt, "no store"),
-        Err(fault) => say_refusal(rt, *fault),
+        Err(fault) => say(rt, *fault),
     }
 }
 
 /// Prints the calls that a device has served.
 pub fn say_calls(rt: &impl Print, calls: &[Call]) -> io::Result<()> {
     for call in calls {
-        writeln!(io::writer(rt), "{call:?}")?;
+        println!(rt; "{call:?}")?;
     }
     Ok(())
 }
@@ -63,7 +63,7 @@ fn recover_or_retry(
             recover_behind(alloc, said, disk)
         }
         (disk, Err(StoreFault::Device)) => {
-            let said = say_refusal(rt, StoreFault::Device);
+            let said = say(rt, StoreFault::Device);
             recover_behind(alloc, said, disk)
         }
         recovered => Ok(recovered),
@@ -90,17 +90,14 @@ pub fn say_left(rt: &impl Print, alloc: Global, disk: MemDisk) -> io::Result<()>
 /// Says whether a slot wants a station, and whether its radio has it: the identifiers.
 fn say_station(rt: &impl Print, slot: &Slot<Sim>, addr: Addr) -> io::Result<()> {
     let (wanted, installed) = (slot.wanted(addr), slot.installed(addr));
-    writeln!(
-        io::writer(rt),
-        "{addr:?} wanted {wanted:?} installed {installed:?}"
-    )
+    println!(rt; "{addr:?} wanted {wanted:?} installed {installed:?}")
 }
 
 /// Says of each slot whether it is up, how many outs wait, and what it has of two stations.
 pub fn say_slots(rt: &impl Print, slots: &[Slot<Sim>]) -> io::Result<()> {
     for slot in slots {
         let (bssid, up, waiting) = (slot.bssid(), slot.is_up(), slot.waiting_count());
-        writeln!(io::writer(rt), "slot: {bssid:?} up {up} waiting {waiting}")?;
+        println!(rt; "slot: {bssid:?} up {up} waiting {waiting}")?;
         say_station(rt, slot, STATION)?;
         say_station(rt, slot, ANOTHER)?;
     }
@@ -118,7 +115,7 @@ fn parts(world: Memory) -> (MemDisk, u64, bool, Vec<Slot<Sim>>) {
 
 /// Says how many entries are settled and what the slots have.
 fn say_settled(rt: &impl Print, number: u64, all: bool, slots: &[Slot<Sim>]) -> io::Result<()> {
-    writeln!(io::writer(rt), "settled: {number}, all {all}")?;
+    println!(rt; "settled: {number}, all {all}")?;
     say_slots(rt, slots)
 }
 

@@ -1,6 +1,7 @@
 //! What is read of files, and what is printed of a store by a check.
-use crate::beginning::store_with_stations;
+use crate::beginning::device;
 use crate::ending::say_left_behind;
+use crate::images::Image;
 use crate::saying::{say, say_again};
 use apd_conf::{ConfigurationFault, Confs};
 use apd_disk::MemDisk;
@@ -9,7 +10,7 @@ use apd_script::read_configurations;
 use apd_store::StoreFault;
 use std::alloc::Global;
 use std::fs::File;
-use std::io::{self, Write};
+use std::io;
 use std::rt::Files;
 
 /// The names of the configuration files.
@@ -28,7 +29,7 @@ pub fn read<R: Print + Files<File = File> + AllocGlobal>(rt: &R) -> io::Result<O
             Ok(confs_of(rt).ok())
         }
         Err(fault) => {
-            writeln!(io::writer(rt), "{fault}")?;
+            say(rt, fault)?;
             Ok(None)
         }
     }
@@ -40,7 +41,7 @@ pub fn files<R: Print + Files<File = File> + AllocGlobal>(rt: &R) -> io::Result<
         return Ok(());
     };
     for conf in confs.list() {
-        writeln!(io::writer(rt), "{conf:?}")?;
+        println!(rt; "{conf:?}")?;
     }
     Ok(())
 }
@@ -72,23 +73,23 @@ fn check_again(
     if !text.is_empty() {
         say(rt, "changed: check")?;
     }
-    let disk = store_with_stations(rt, alloc)?;
+    let disk = device(rt, alloc, Image::Stations)?;
     Ok(check_disk(alloc, disk, text))
 }
 
 /// Checks a store with stations of two radios, and says what its device shows then, and which calls it has served.
 pub fn check(rt: &impl Print, alloc: Global) -> io::Result<()> {
     let mut text = Vec::new(alloc);
-    let disk = store_with_stations(rt, alloc)?;
+    let disk = device(rt, alloc, Image::Stations)?;
     let checked = match check_disk(alloc, disk, &mut text) {
         Err(fault) => check_again(rt, alloc, fault, &mut text)?,
         checked => checked,
     };
     match checked {
         Ok(disk) => {
-            let said = io::writer(rt).write_all(text.as_slice());
+            let said = rt.write_all(text.as_slice());
             say_left_behind(rt, alloc, said, disk)
         }
-        Err(fault) => writeln!(io::writer(rt), "{fault}"),
+        Err(fault) => say(rt, fault),
     }
 }

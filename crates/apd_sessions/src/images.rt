@@ -35,14 +35,42 @@ fn zeros(alloc: Global) -> Result<Vec<u8>, AllocError> {
     vec![in alloc; 0u8; DEVICE_LENGTH as usize]
 }
 
-/// A device of zeros.
-pub fn blank_disk(alloc: Global) -> Result<MemDisk, AllocError> {
+/// What a device holds at first.
+#[derive(Clone, Copy, PartialEq, Eq)]
+pub enum Image {
+    /// Zeros.
+    Blank,
+    /// A store with stations at two radios.
+    Stations,
+    /// A store of version 1 with one station.
+    Old,
+}
+
+fn blank_disk(alloc: Global) -> Result<MemDisk, AllocError> {
     MemDisk::new(alloc, zeros(alloc)?)
 }
 
 /// Adds zeros up to a length, which no proof meets here.
 fn pad(bytes: &mut Vec<u8>, length: usize) -> Result<(), AllocError> {
     bytes.resize(length, 0)
+}
+
+fn add(bytes: &mut Vec<u8>, more: &[u8]) -> Result<(), AllocError> {
+    bytes.extend_from_slice(more)
+}
+
+/// Adds a mark, and half A up to its epoch.
+fn add_front(bytes: &mut Vec<u8>, mark: &[u8]) -> Result<(), AllocError> {
+    add(bytes, mark)?;
+    pad(bytes, HALF_A)?;
+    add(bytes, &[1, 1, 0, 0, 0, 0, 0, 0, 0])
+}
+
+/// Adds the snapshot of half A, and its length in front of it.
+fn add_snapshot(bytes: &mut Vec<u8>, snapshot: &[u8]) -> Result<(), AllocError> {
+    let length = u32::try_from(snapshot.len()).unwrap_or(0);
+    add(bytes, &length.to_le_bytes())?;
+    add(bytes, snapshot)
 }
 
 /// Adds what a device has that begins so.
@@ -52,13 +80,9 @@ fn add_store(
     snapshot: &[u8],
     groups: &[u8],
 ) -> Result<(), AllocError> {
-    bytes.extend_from_slice(mark)?;
-    pad(bytes, HALF_A)?;
-    bytes.extend_from_slice(&[1, 1, 0, 0, 0, 0, 0, 0, 0])?;
-    let length = u32::try_from(snapshot.len()).unwrap_or(0);
-    bytes.extend_from_slice(&length.to_le_bytes())?;
-    bytes.extend_from_slice(snapshot)?;
-    bytes.extend_from_slice(groups)?;
+    add_front(bytes, mark)?;
+    add_snapshot(bytes, snapshot)?;
+    add(bytes, groups)?;
     pad(bytes, DEVICE_LENGTH as usize)
 }
 
@@ -77,12 +101,11 @@ fn disk_of(
     }
 }
 
-/// A device of a store with stations at two radios.
-pub fn disk_with_stations(alloc: Global) -> Result<MemDisk, AllocError> {
-    disk_of(alloc, b"RAPSTOR2", SNAPSHOT, &[])
-}
-
-/// A device of a store of version 1 with one station.
-pub fn old_disk(alloc: Global) -> Result<MemDisk, AllocError> {
-    disk_of(alloc, b"RAPSTOR1", &[], OLD_GROUPS)
+/// A device that holds this.
+pub fn disk_with(alloc: Global, image: Image) -> Result<MemDisk, AllocError> {
+    match image {
+        Image::Blank => blank_disk(alloc),
+        Image::Stations => disk_of(alloc, b"RAPSTOR2", SNAPSHOT, &[]),
+        Image::Old => disk_of(alloc, b"RAPSTOR1", &[], OLD_GROUPS),
+    }
 }

@@ -1,7 +1,8 @@
 //! The sessions, by name.
-use crate::beginning::{begin, new_confs, new_store, store_with_stations};
+use crate::beginning::{begin, device, new_confs, new_store};
 use crate::ending::end;
 use crate::filed::{check, files, read};
+use crate::images::Image;
 use crate::requests::{
     ANOTHER_ASSOCIATES, ANOTHER_AUTHENTICATES, ASSOCIATES, ASSOCIATES_ELSEWHERE, AUTHENTICATES,
     AUTHENTICATES_ELSEWHERE, THIRD_AUTHENTICATES, command, start_of,
@@ -14,7 +15,7 @@ use apd_disk::MemDisk;
 use apd_world::Step;
 use std::alloc::Global;
 use std::fs::File;
-use std::io::{self, Write};
+use std::io;
 use std::rt::Files;
 
 const NONE: Calls = Calls { failed: false };
@@ -210,7 +211,7 @@ fn restart<R: Print + Files<File = File> + AllocGlobal>(rt: &R) -> io::Result<()
     let Some(confs) = read(rt)? else {
         return Ok(());
     };
-    let disk = store_with_stations(rt, rt.alloc())?;
+    let disk = device(rt, rt.alloc(), Image::Stations)?;
     start_on(rt, rt.alloc(), disk, &confs)
 }
 
@@ -219,7 +220,7 @@ pub fn run_session<R: Print + Files<File = File> + AllocGlobal>(
     rt: &R,
     name: &str,
 ) -> io::Result<()> {
-    writeln!(io::writer(rt), "= {name}")?;
+    println!(rt; "= {name}")?;
     match name {
         "stations" => of_one_radio(rt, rt.alloc(), Session::Stations),
         "commands" => of_one_radio(rt, rt.alloc(), Session::Commands),

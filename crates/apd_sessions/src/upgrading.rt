@@ -1,12 +1,13 @@
 //! A store of version 1 that is copied into a new one.
-use crate::beginning::{blank_device, old_store};
+use crate::beginning::device;
 use crate::ending::{say_calls, say_left};
+use crate::images::Image;
 use crate::saying::{say, say_again};
 use apd_disk::{Call, MemDisk};
 use apd_maintenance::{UpgradeFault, run_upgrade};
 use apd_store::StoreFault;
 use std::alloc::Global;
-use std::io::{self, Write};
+use std::io;
 
 /// Both devices, and why no copy is told of; none where one is.
 type Copied = (MemDisk, MemDisk, Option<UpgradeFault>);
@@ -84,8 +85,8 @@ fn say_copied(
 ) -> io::Result<()> {
     say_write(rt, old)?;
     match fault {
-        Some(fault) => writeln!(io::writer(rt), "{fault}")?,
-        None => io::writer(rt).write_all(text)?,
+        Some(fault) => say(rt, fault)?,
+        None => rt.write_all(text)?,
     }
     say(rt, "old:")?;
     say_calls(rt, old.calls())
@@ -127,7 +128,7 @@ fn copy_behind(
 
 /// A copy of a device into a blank one.
 fn copy_into_blank(rt: &impl Print, alloc: Global, old: MemDisk) -> io::Result<MemDisk> {
-    match blank_device(rt, alloc) {
+    match device(rt, alloc, Image::Blank) {
         Ok(new) => {
             let said = say(rt, "no store");
             copy_behind(rt, alloc, said, old, new)
@@ -142,7 +143,7 @@ fn copy_into_blank(rt: &impl Print, alloc: Global, old: MemDisk) -> io::Result<M
 /// Copies a store of version 1, and says which calls that takes of it, what the new device shows, and which calls that
 /// has served, also where a call of a device failed.
 pub fn upgrade(rt: &impl Print, alloc: Global) -> io::Result<()> {
-    let old = old_store(rt, alloc)?;
+    let old = device(rt, alloc, Image::Old)?;
     let new = copy_into_blank(rt, alloc, old)?;
     say_left(rt, alloc, new)
 }

@@ -1,6 +1,6 @@
 //! The steps of a session: each is made once more where it lacked memory, and what it told is printed.
 use crate::requests::{COMMITS, WLAN0, WLAN1};
-use crate::saying::{say_again, say_refusal, say_table};
+use crate::saying::{say, say_again, say_table};
 use crate::sum::sum_of;
 use apd_core::PublishFault;
 use apd_disk::MemDisk;
@@ -9,7 +9,7 @@ use apd_radio::Sim;
 use apd_slot::SlotFault;
 use apd_store::StoreFault;
 use apd_world::{Step, Told, World, WorldFault};
-use std::io::{self, Write};
+use std::io;
 
 /// A world on a device of memory, with radios that do nothing.
 pub type Memory = World<MemDisk, Sim>;
@@ -65,7 +65,7 @@ fn say_lack(rt: &impl Print, step: &Step<'_>, is_as_it_was: bool) -> io::Result<
     if is_as_it_was {
         say_again(rt, name_of(step))
     } else {
-        writeln!(io::writer(rt), "changed: {}", name_of(step))
+        println!(rt; "changed: {}", name_of(step))
     }
 }
 
@@ -85,9 +85,9 @@ fn tell_or_retry(rt: &impl Print, world: &mut Memory, step: &Step<'_>) -> io::Re
 fn say_told(rt: &impl Print, world: &Memory, told: &Told, calls: &mut Calls) -> io::Result<()> {
     if let Told::Called(Err(fault)) = told {
         calls.failed = true;
-        return say_refusal(rt, *fault);
+        return say(rt, *fault);
     }
-    writeln!(io::writer(rt), "{told:?}")?;
+    println!(rt; "{told:?}")?;
     match told {
         Told::Published(_) => say_table(rt, world.table()),
         _ => Ok(()),
@@ -118,6 +118,11 @@ fn make_all(
     Ok(())
 }
 
+/// Commits what was accepted, and hands it out.
+fn commit(rt: &impl Print, world: &mut Memory, calls: &mut Calls) -> io::Result<()> {
+    make_all(rt, world, &COMMITS, calls)
+}
+
 /// Accepts requests, and commits and hands out each before the next.
 pub fn serve(
     rt: &impl Print,
@@ -127,7 +132,7 @@ pub fn serve(
 ) -> io::Result<()> {
     for request in requests {
         make(rt, world, request, calls)?;
-        make_all(rt, world, &COMMITS, calls)?;
+        commit(rt, world, calls)?;
     }
     Ok(())
 }
@@ -163,7 +168,7 @@ fn start_or_retry(rt: &impl Print, world: &mut Memory) -> io::Result<Started> {
 /// Prints what a start told, each with its recipient, and what is settled.
 fn say_started(rt: &impl Print, world: &Memory, answers: &[(Recipient, Told)]) -> io::Result<()> {
     for (to, told) in answers {
-        writeln!(io::writer(rt), "{to:?}: {told:?}")?;
+        println!(rt; "{to:?}: {told:?}")?;
     }
     say_table(rt, world.table())
 }
@@ -178,7 +183,7 @@ pub fn start(rt: &impl Print, world: &mut Memory, calls: &mut Calls) -> io::Resu
         }
         Err(fault) => {
             calls.failed = true;
-            writeln!(io::writer(rt), "{fault}")
+            say(rt, fault)
         }
     }
 }
