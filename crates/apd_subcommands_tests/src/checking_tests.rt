@@ -1,10 +1,11 @@
-use crate::expect::{expect, expect_file, hold, protect, read, remove, write};
+use crate::expect::{expect, expect_file, hold, open, protect, read, remove, remove_any, write};
 use crate::scripting_tests::{
-    JOINS, add_fault, expect_script, make_old_store, make_store, make_store_behind, put,
+    JOINS, add_fault, end_of, expect_script, make_old_store, make_store, make_store_behind,
+    put_over,
 };
-use apd_command_line::command;
+use crate::words::matches_of;
 use apd_conf::Confs;
-use apd_script::{read_configurations, run_on_store};
+use apd_script::read_configurations;
 use apd_site::{Access, open_disk};
 use apd_subcommands::{CommandFault, check_and_print, run_check_command};
 use std::fs::{self, File};
@@ -81,9 +82,9 @@ fn make_store_of_two(rt: &(impl Abort + Files<File = File> + AllocGlobal), name:
     let alloc = rt.alloc();
     make_store(rt, name);
     let confs = two_interfaces(rt);
-    let disk = open_disk(rt, name, Access::Write).expect(rt, "a store that can be opened");
-    let has_run = run_on_store(alloc, disk, confs, LISTS, &mut Vec::new(alloc)).is_ok();
-    hold(rt, has_run);
+    let disk = open(rt, name, Access::Write);
+    let fault = end_of(alloc, disk, confs, LISTS, &mut Vec::new(alloc));
+    hold(rt, fault.is_none());
 }
 
 #[test]
@@ -100,10 +101,8 @@ fn stations_fault_of(
     name: &str,
     out: &mut Vec<u8>,
 ) -> Option<CommandFault> {
-    let command = command(rt.alloc()).expect(rt, "memory");
     let words = ["apd", "check", "--stations", name];
-    let matches = command.try_get_matches_from(&words).ok();
-    let matches = matches.expect(rt, "words that are right");
+    let matches = matches_of(rt, &words);
     let check = matches.subcommand_matches("check");
     let told = run_check_command(rt, check.expect(rt, "the words of a check"), out);
     drop(matches);
@@ -147,16 +146,14 @@ fn stations_and_addresses_of_lists_are_told_besides(rt: HostRuntime) {
 fn no_station_of_what_is_refused_is_told(rt: HostRuntime) {
     let name = "refused_store_of_a_stations_test";
     let refused: &[u8] = b"apd: cannot read refused_store_of_a_stations_test\n";
-    let _ = fs::remove_file(&rt, name);
+    remove_any(&rt, name);
     expect_stations(&rt, name, refused);
     write(&rt, name, b"");
     expect_stations(&rt, name, NOT_A_STORE);
     make_store_behind(&rt, name, JOINS);
-    let mut bytes = read(&rt, name);
-    put(&mut bytes, 64, &[0]);
-    write(&rt, name, bytes.as_slice());
+    put_over(&rt, name, 64, &[0]);
     expect_stations(&rt, name, DAMAGED);
-    let serving = open_disk(&rt, name, Access::Write).expect(&rt, "a store that can be opened");
+    let serving = open(&rt, name, Access::Write);
     expect_stations(&rt, name, refused);
     drop(serving);
     remove(&rt, name);
@@ -190,7 +187,7 @@ const OLD: &[u8] = b"apd: store of version 1\n";
 /// Bytes from a place on of a store on which a station associated, and what is told of it with them: the version, all that
 /// nobody looks at, the gate of the first half, the gates of the groups, the state of the station, the identifier that was
 /// given last, and behind them a group of no records, and one that is too long.
-const CHANGES: [(usize, &[u8], &[u8]); 12] = [
+const CHANGES: &[(usize, &[u8], &[u8])] = &[
     (7, b"1", OLD),
     (8, &[b'x'; 56], ONE_STATION),
     (64, &[0], DAMAGED),
@@ -213,7 +210,7 @@ fn bytes_that_are_changed_are_told_of(rt: HostRuntime) {
         expect_check_with(&rt, name, (place, b"x", NOT_A_STORE));
     }
     for change in CHANGES {
-        expect_check_with(&rt, name, change);
+        expect_check_with(&rt, name, *change);
     }
     expect_check(&rt, name, ONE_STATION);
     remove(&rt, name);
@@ -239,7 +236,7 @@ fn write_zeros(rt: &(impl Abort + Files<File = File> + AllocGlobal), name: &str,
 fn what_is_no_store_is_told_of(rt: HostRuntime) {
     let name = "no_store_of_a_check_test";
     let missing: &[u8] = b"apd: cannot read no_store_of_a_check_test\n";
-    let _ = fs::remove_file(&rt, name);
+    remove_any(&rt, name);
     expect_check(&rt, name, missing);
     hold(&rt, fs::metadata(&rt, name).is_err());
     fs::create_dir(&rt, name).expect(&rt, "a folder");
@@ -252,7 +249,7 @@ fn what_is_no_store_is_told_of(rt: HostRuntime) {
 
 // A check goes beside one that has the store open, and a start doesn't.
 fn check_beside_a_check(rt: &(impl Abort + Files<File = File> + AllocGlobal), name: &str) {
-    let looking = open_disk(rt, name, Access::Read).expect(rt, "a store that can be read");
+    let looking = open(rt, name, Access::Read);
     expect_check(rt, name, b"");
     hold(rt, open_disk(rt, name, Access::Write).is_err());
     drop(looking);
@@ -264,7 +261,7 @@ fn check_beside_a_start(
     name: &str,
     refused: &[u8],
 ) {
-    let serving = open_disk(rt, name, Access::Write).expect(rt, "a store that can be opened");
+    let serving = open(rt, name, Access::Write);
     expect_check(rt, name, refused);
     drop(serving);
 }

@@ -1,5 +1,7 @@
 //! Expectations, and what tests do with files, in functions of their own: a test that calls them compares and prints
 //! nothing itself, and goes on in one way alone.
+use apd_disk::FileDisk;
+use apd_site::{Access, open_disk};
 use std::fmt::Debug;
 use std::fs::{self, File};
 use std::process::Abort;
@@ -28,6 +30,20 @@ pub fn write(rt: &(impl Abort + Files<File = File>), name: &str, bytes: &[u8]) {
 /// Removes the file of a name.
 pub fn remove(rt: &(impl Abort + Files<File = File>), name: &str) {
     fs::remove_file(rt, name).expect(rt, "a file that can be removed");
+}
+
+/// Removes the file of a name, if there is one.
+pub fn remove_any(rt: &impl Files<File = File>, name: &str) {
+    let _ = fs::remove_file(rt, name);
+}
+
+/// The file of a name as a disk.
+pub fn open(
+    rt: &(impl Abort + Files<File = File> + AllocGlobal),
+    name: &str,
+    access: Access,
+) -> FileDisk {
+    open_disk(rt, name, access).expect(rt, "a file that can be opened")
 }
 
 /// Lets nobody write the file of a name.

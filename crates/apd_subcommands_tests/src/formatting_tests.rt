@@ -1,11 +1,11 @@
-use crate::expect::{expect, read, remove, write};
-use crate::scripting_tests::make_old_store;
+use crate::expect::{expect, open, read, remove, remove_any, write};
+use crate::scripting_tests::{format_fault_of, make_old_store};
 use apd_disk::FileDisk;
-use apd_maintenance::{FormatFault, run_format};
+use apd_maintenance::FormatFault;
 use apd_site::{Access, open_disk};
 use apd_store::{StoreFault, recover};
 use apd_subcommands::CommandFault;
-use std::fs::{self, File};
+use std::fs::File;
 use std::process::Abort;
 use std::rt::Files;
 
@@ -33,13 +33,9 @@ fn expect_format(
     fault: Option<FormatFault>,
     printed: &[u8],
 ) {
-    let disk = open_disk(rt, name, Access::Make).expect(rt, "a file that can be made");
+    let disk = open(rt, name, Access::Make);
     let mut out = Vec::new(rt.alloc());
-    let found = match run_format(rt.alloc(), disk, &mut out) {
-        Ok(_) => None,
-        Err(refusal) => Some(refusal.1),
-    };
-    expect(rt, found, fault);
+    expect(rt, format_fault_of(rt.alloc(), disk, &mut out), fault);
     expect(rt, out.as_slice(), printed);
 }
 
@@ -54,7 +50,7 @@ fn expect_front(rt: &(impl Abort + Files<File = File> + AllocGlobal), name: &str
 #[test]
 fn a_file_becomes_an_empty_store(rt: HostRuntime) {
     let name = "store_of_a_test";
-    let _ = fs::remove_file(&rt, name);
+    remove_any(&rt, name);
     // Where there is none, and over what is there.
     for _ in 0..2 {
         expect_format(&rt, name, None, b"formatted\n");
@@ -67,7 +63,7 @@ fn a_file_becomes_an_empty_store(rt: HostRuntime) {
 #[test]
 fn a_store_of_version_1_becomes_an_empty_store(rt: HostRuntime) {
     let name = "old_store_of_a_test";
-    let _ = make_old_store(&rt, name);
+    make_old_store(&rt, name);
     expect_format(&rt, name, None, b"formatted\n");
     expect_front(&rt, name);
     expect(&rt, rows_of(&rt, name), 0);
@@ -87,7 +83,7 @@ fn expect_no_folder(rt: &(impl Abort + Files<File = File> + AllocGlobal)) {
     expect_text(rt, &told, "cannot read no_folder_of_a_test/store");
 }
 
-const TEXTS: [(FormatFault, &str); 3] = [
+const TEXTS: &[(FormatFault, &str)] = &[
     (FormatFault::Store(StoreFault::NotAStore), "not a store"),
     (FormatFault::Store(StoreFault::Device), "device fault"),
     (FormatFault::Writer, "writer fault"),
@@ -102,7 +98,7 @@ fn faults_of_a_store_s_file_are_printed_in_these_words(rt: HostRuntime) {
     expect(&rt, read(&rt, name).len(), 8);
     remove(&rt, name);
     for (fault, text) in TEXTS {
-        expect_text(&rt, &CommandFault::Format(fault), text);
+        expect_text(&rt, &CommandFault::Format(*fault), text);
     }
     expect_no_folder(&rt);
 }

@@ -17,3 +17,5 @@ mod scripting_tests;
 mod streams_tests;
 #[cfg(test)]
 mod upgrading_tests;
+#[cfg(test)]
+mod words;

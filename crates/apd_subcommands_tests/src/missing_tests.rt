@@ -1,11 +1,11 @@
 use crate::checking_tests::expect_check;
-use crate::expect::{expect, expect_file, hold, read, remove, write};
+use crate::expect::{expect, expect_file, hold, open, read, remove, remove_any, write};
 use crate::formatting_tests::expect_text;
 use crate::scripting_tests::{
-    Closed, JOINED, JOINS, add_fault, expect_script, make_old_store, make_store, put,
+    Closed, JOINED, JOINS, add_fault, expect_script, make_old_store, make_store, put, put_over,
 };
-use apd_command_line::command;
-use apd_site::{Access, open_disk};
+use crate::words::matches_of;
+use apd_site::Access;
 use apd_subcommands::{CommandFault, run_format_command};
 use std::fs::{self, File};
 use std::io::Write;
@@ -19,10 +19,8 @@ fn fault_of(
     name: &str,
     writer: &mut impl Write,
 ) -> Option<CommandFault> {
-    let command = command(rt.alloc()).expect(rt, "memory");
     let words = ["apd", "format", "--missing", name];
-    let matches = command.try_get_matches_from(&words).ok();
-    let matches = matches.expect(rt, "words that are right");
+    let matches = matches_of(rt, &words);
     let format = matches.subcommand_matches("format");
     let made = run_format_command(rt, format.expect(rt, "the words of a format"), writer);
     drop(matches);
@@ -49,18 +47,23 @@ const KEPT: &[u8] = b"kept\n";
 
 const NOT_A_STORE: &[u8] = b"apd: not a store\n";
 
+/// Expects that the file of a name is kept, byte for byte.
+fn expect_kept(rt: &(impl Abort + Files<File = File> + AllocGlobal), name: &str) {
+    let bytes = read(rt, name);
+    expect_missing(rt, name, KEPT);
+    expect_file(rt, name, bytes.as_slice());
+}
+
 #[test]
 fn a_store_is_made_once_and_then_kept(rt: HostRuntime) {
     let name = "store_of_a_missing_test";
-    let _ = fs::remove_file(&rt, name);
+    remove_any(&rt, name);
     expect_missing(&rt, name, FORMATTED);
     expect_check(&rt, name, b"");
     expect_nothing(&rt, "store_of_a_missing_test.new0");
-    // With a station of its own it stays, byte for byte.
+    // With a station of its own it stays.
     expect_script(&rt, name, JOINS, JOINED);
-    let bytes = read(&rt, name);
-    expect_missing(&rt, name, KEPT);
-    expect_file(&rt, name, bytes.as_slice());
+    expect_kept(&rt, name);
     remove(&rt, name);
 }
 
@@ -68,14 +71,11 @@ fn a_store_is_made_once_and_then_kept(rt: HostRuntime) {
 #[test]
 fn a_store_that_is_not_served_is_kept(rt: HostRuntime) {
     let name = "kept_store_of_a_missing_test";
-    let mut bytes = make_old_store(&rt, name);
-    expect_missing(&rt, name, KEPT);
-    expect_file(&rt, name, bytes.as_slice());
-    put(&mut bytes, 7, b"2");
-    put(&mut bytes, 64, b"x");
-    write(&rt, name, bytes.as_slice());
-    expect_missing(&rt, name, KEPT);
-    expect_file(&rt, name, bytes.as_slice());
+    make_old_store(&rt, name);
+    expect_kept(&rt, name);
+    put_over(&rt, name, 7, b"2");
+    put_over(&rt, name, 64, b"x");
+    expect_kept(&rt, name);
     remove(&rt, name);
 }
 
@@ -98,7 +98,7 @@ fn zeros_are_made_a_store(rt: HostRuntime) {
 }
 
 /// Lengths, and a place at which a byte is none of zeros.
-const OTHERS: [(usize, usize, &[u8]); 8] = [
+const OTHERS: &[(usize, usize, &[u8])] = &[
     (0, 0, b""),
     (1, 0, b""),
     (8, 0, b"RAPSTOR2"),
@@ -113,7 +113,7 @@ const OTHERS: [(usize, usize, &[u8]); 8] = [
 fn any_other_file_is_left_as_it_was(rt: HostRuntime) {
     let name = "other_file_of_a_missing_test";
     for (length, place, bytes) in OTHERS {
-        let other = zeros_but(&rt, length, place, bytes);
+        let other = zeros_but(&rt, *length, *place, bytes);
         write(&rt, name, other.as_slice());
         expect_missing(&rt, name, NOT_A_STORE);
         expect_file(&rt, name, other.as_slice());
@@ -147,7 +147,7 @@ fn a_store_in_use_is_left_alone(rt: HostRuntime) {
     let wanted = b"apd: cannot read used_store_of_a_missing_test\n";
     make_store(&rt, name);
     for access in [Access::Write, Access::Read] {
-        let used = open_disk(&rt, name, access).expect(&rt, "a store that can be opened");
+        let used = open(&rt, name, access);
         expect_missing(&rt, name, wanted);
         drop(used);
     }
@@ -160,7 +160,7 @@ fn a_store_in_use_is_left_alone(rt: HostRuntime) {
 fn what_a_kill_left_stays(rt: HostRuntime) {
     let name = "next_store_of_a_missing_test";
     let left = "next_store_of_a_missing_test.new0";
-    let _ = fs::remove_file(&rt, name);
+    remove_any(&rt, name);
     write(&rt, left, b"left");
     expect_missing(&rt, name, FORMATTED);
     expect_check(&rt, name, b"");
@@ -174,7 +174,7 @@ fn what_a_kill_left_stays(rt: HostRuntime) {
 #[test]
 fn what_can_not_be_told_is_done(rt: HostRuntime) {
     let name = "untold_store_of_a_missing_test";
-    let _ = fs::remove_file(&rt, name);
+    remove_any(&rt, name);
     for _ in 0..2 {
         let told = fault_of(&rt, name, &mut Closed).expect(&rt, "a fault");
         expect_text(&rt, &told, "writer fault");

@@ -1,6 +1,7 @@
 use crate::expect::{expect, expect_file, hold, read, remove, write};
 use crate::scripting_tests::make_old_store;
-use apd_command_line::{command, no_text, refuse_ports};
+use crate::words::{matches_of, parse};
+use apd_command_line::{no_text, refuse_ports};
 use apd_disk::FileDisk;
 use apd_program::{Host, ProgramFault, RunningFault, run_and_log, tell};
 use apd_store::format;
@@ -16,7 +17,7 @@ use std::rt::Files;
 const CONF: &str = "interface=wlan0\nbssid=02:00:00:00:00:01\nssid=net\n";
 
 /// Command lines, the status that they end with, and how what is printed begins.
-const WORDS: [(&[&str], u8, &str); 11] = [
+const WORDS: &[(&[&str], u8, &str)] = &[
     (
         &["apd", "run", "--store", "s", "--port", "1023", "c"],
         2,
@@ -172,20 +173,18 @@ fn expect_error(
 
 /// What is wrong with these words.
 fn error_of(rt: &(impl Abort + AllocGlobal), words: &[&str]) -> Option<clap::Error> {
-    let command = command(rt.alloc()).expect(rt, "memory");
-    command.try_get_matches_from(words).err()
+    parse(rt, words).err()
 }
 
 #[test]
 fn wrong_words_are_told(rt: HostRuntime) {
     for (words, status, start) in WORDS {
-        expect_error(&rt, error_of(&rt, words), status, start);
+        expect_error(&rt, error_of(&rt, words), *status, start);
     }
 }
 
 /// What is wrong with a run at a port, whose radios' drivers have the ports from this one on.
 fn refusal_of(rt: &(impl AllocGlobal + Abort), port: &str, drivers: &str) -> Option<clap::Error> {
-    let command = command(rt.alloc()).expect(rt, "memory");
     let words = [
         "apd",
         "run",
@@ -197,8 +196,7 @@ fn refusal_of(rt: &(impl AllocGlobal + Abort), port: &str, drivers: &str) -> Opt
         drivers,
         "c",
     ];
-    let matches = command.try_get_matches_from(&words).ok();
-    let matches = matches.expect(rt, "words that are right");
+    let matches = matches_of(rt, &words);
     let run = matches.subcommand_matches("run");
     let error = refuse_ports(rt.alloc(), run.expect(rt, "the words of a run"));
     drop(matches);
@@ -236,9 +234,7 @@ fn a_fault_is_told(rt: HostRuntime) {
 
 /// Why a run with the arguments of these words doesn't serve.
 fn fault_of<R: Abort + Host>(rt: &R, words: &[&str]) -> RunningFault {
-    let command = command(rt.alloc()).expect(rt, "memory");
-    let matches = command.try_get_matches_from(words).ok();
-    let matches = matches.expect(rt, "words that are right");
+    let matches = matches_of(rt, words);
     let run = matches.subcommand_matches("run");
     let served = run_and_log(rt, run.expect(rt, "the words of a run"));
     drop(matches);

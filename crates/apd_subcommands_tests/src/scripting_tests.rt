@@ -1,7 +1,7 @@
-use crate::expect::{expect, expect_file, hold, read, remove, write};
+use crate::expect::{expect, expect_file, hold, open, read, remove, remove_any, write};
 use apd_conf::{Conf, Confs};
-use apd_disk::FuseDisk;
-use apd_maintenance::run_format;
+use apd_disk::{Disk, FileDisk, FuseDisk};
+use apd_maintenance::{FormatFault, run_format};
 use apd_script::{ScriptFault, run_on_store};
 use apd_site::{Access, open_disk};
 use apd_subcommands::{CommandFault, run_script_of_input};
@@ -17,28 +17,68 @@ fn new_confs(rt: &impl Abort, alloc: Global) -> Confs {
     Confs::new(list).expect(rt, "the built-in configuration")
 }
 
+/// Why a file isn't made a store, if it isn't.
+pub fn format_fault_of(alloc: Global, disk: FileDisk, out: &mut Vec<u8>) -> Option<FormatFault> {
+    match run_format(alloc, disk, out) {
+        Ok(made) => {
+            drop(made);
+            None
+        }
+        Err((disk, fault)) => {
+            drop(disk);
+            Some(fault)
+        }
+    }
+}
+
 /// Makes the file of a name a new store.
 pub fn make_store(rt: &(impl Abort + Files<File = File> + AllocGlobal), name: &str) {
-    let _ = fs::remove_file(rt, name);
-    let disk = open_disk(rt, name, Access::Make).expect(rt, "a file that can be made");
+    remove_any(rt, name);
+    let disk = open(rt, name, Access::Make);
     let mut out = Vec::new(rt.alloc());
-    let is_made = run_format(rt.alloc(), disk, &mut out).is_ok();
-    hold(rt, is_made);
+    expect(rt, format_fault_of(rt.alloc(), disk, &mut out), None);
 }
 
 /// Makes the file of a name a store of version 1, and gives its bytes.
 pub fn make_old_store(rt: &(impl Abort + Files<File = File> + AllocGlobal), name: &str) -> Vec<u8> {
     make_store(rt, name);
-    let mut bytes = read(rt, name);
-    put(&mut bytes, 7, b"1");
-    write(rt, name, bytes.as_slice());
-    bytes
+    put_over(rt, name, 7, b"1");
+    read(rt, name)
 }
 
 /// Puts these bytes over others, from a place on.
 pub fn put(bytes: &mut [u8], place: usize, others: &[u8]) {
     for (there, other) in bytes.iter_mut().skip(place).zip(others.iter()) {
         *there = *other;
+    }
+}
+
+/// Puts these bytes over others of the file of a name, from a place on.
+pub fn put_over(
+    rt: &(impl Abort + Files<File = File> + AllocGlobal),
+    name: &str,
+    place: usize,
+    others: &[u8],
+) {
+    let mut bytes = read(rt, name);
+    put(&mut bytes, place, others);
+    write(rt, name, bytes.as_slice());
+}
+
+/// What ends a script on the store of a device, if anything does.
+pub fn end_of<D: Disk + Drop, I: BufRead + Drop, W: Write>(
+    alloc: Global,
+    disk: D,
+    confs: Confs,
+    script: I,
+    writer: &mut W,
+) -> Option<ScriptFault> {
+    match run_on_store(alloc, disk, confs, script, writer) {
+        Ok(world) => {
+            drop(world);
+            None
+        }
+        Err(fault) => Some(fault),
     }
 }
 
@@ -52,8 +92,8 @@ fn fault_of(
     match open_disk(rt, name, Access::Write) {
         Ok(disk) => {
             let confs = new_confs(rt, rt.alloc());
-            let ran = run_on_store(rt.alloc(), disk, confs, script, out);
-            ran.err().map(CommandFault::Script)
+            let fault = end_of(rt.alloc(), disk, confs, script, out)?;
+            Some(CommandFault::Script(fault))
         }
         Err(fault) => Some(CommandFault::Open(fault)),
     }
@@ -103,7 +143,7 @@ const STOPPED: &[u8] =
     b"recovered 1\nrecovered 1\nrecovered 1\nrecovered 1\nrecovered 1\nrecovered 1\nrecovered 1\nrecovered 1\napd: bad line 9\n";
 
 /// Scripts on one store, and what they print.
-const RUNS: [(&[u8], &[u8]); 4] = [
+const RUNS: &[(&[u8], &[u8])] = &[
     (JOINS, JOINED),
     (b"cmd STA 02:00:00:00:00:aa\n", SHOWN),
     (
@@ -151,10 +191,9 @@ fn give_up<I: BufRead + Drop, W: Write>(
     reader: I,
     writer: &mut W,
 ) -> ScriptFault {
-    let disk = open_disk(rt, name, Access::Write).expect(rt, "a store that can be opened");
-    let disk = FuseDisk::new(disk, calls);
     let confs = new_confs(rt, rt.alloc());
-    let fault = run_on_store(rt.alloc(), disk, confs, reader, writer).err();
+    let disk = FuseDisk::new(open(rt, name, Access::Write), calls);
+    let fault = end_of(rt.alloc(), disk, confs, reader, writer);
     fault.expect(rt, "a fault")
 }
 
@@ -208,9 +247,7 @@ fn expect_broken(
     wanted: &[u8],
 ) {
     make_store(rt, name);
-    let mut bytes = read(rt, name);
-    put(&mut bytes, place, b"x");
-    write(rt, name, bytes.as_slice());
+    put_over(rt, name, place, b"x");
     expect_script(rt, name, b"", wanted);
 }
 
@@ -222,7 +259,7 @@ const NOT_A_STORE: &[u8] = b"apd: not a store\n";
 fn faults_of_a_script_s_store_are_printed_in_these_words(rt: HostRuntime) {
     let name = "no_store_of_a_script_test";
     // One that is missing, a folder, and a short one.
-    let _ = fs::remove_file(&rt, name);
+    remove_any(&rt, name);
     expect_script(&rt, name, b"", NOT_READ);
     fs::create_dir(&rt, name).expect(&rt, "a folder");
     expect_script(&rt, name, b"", NOT_READ);

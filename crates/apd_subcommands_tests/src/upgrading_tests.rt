@@ -1,7 +1,7 @@
 use crate::checking_tests::check_output;
-use crate::expect::{expect, expect_file, hold, protect, read, remove, write};
+use crate::expect::{expect, expect_file, hold, protect, read, remove, remove_any, write};
 use crate::formatting_tests::expect_text;
-use crate::scripting_tests::{add_fault, expect_script, make_old_store, put};
+use crate::scripting_tests::{add_fault, expect_script, make_old_store, put_over};
 use apd_maintenance::UpgradeFault;
 use apd_store::StoreFault;
 use apd_subcommands::{CommandFault, upgrade_and_print};
@@ -36,7 +36,7 @@ fn expect_sound(rt: &(impl Abort + Files<File = File> + AllocGlobal), name: &str
 fn a_store_of_version_1_is_copied(rt: HostRuntime) {
     let old = "old_store_of_an_upgrade_test";
     let new = "new_store_of_an_upgrade_test";
-    let _ = fs::remove_file(&rt, new);
+    remove_any(&rt, new);
     let bytes = make_old_store(&rt, old);
     protect(&rt, old);
     for _ in 0..2 {
@@ -67,10 +67,9 @@ const GONE_ON: &[u8] =
 fn a_copy_goes_on_with_its_station(rt: HostRuntime) {
     let old = "joined_store_of_an_upgrade_test";
     let new = "copied_store_of_an_upgrade_test";
-    let _ = fs::remove_file(&rt, new);
-    let mut bytes = make_old_store(&rt, old);
-    put(&mut bytes, 64, HALF);
-    write(&rt, old, bytes.as_slice());
+    remove_any(&rt, new);
+    make_old_store(&rt, old);
+    put_over(&rt, old, 64, HALF);
     expect_upgrade(&rt, old, new, COPIED);
     expect_script(&rt, new, GOES_ON, GONE_ON);
     remove(&rt, old);
@@ -103,7 +102,7 @@ fn refusals_of_an_upgrade(rt: HostRuntime) {
     let none = "no_store_of_an_upgrade_test";
     let old = "refused_store_of_an_upgrade_test";
     let new = "new_file_of_an_upgrade_test";
-    let _ = fs::remove_file(&rt, new);
+    remove_any(&rt, new);
     // A missing OLD makes no NEW.
     let want = b"apd: cannot read no_store_of_an_upgrade_test\n";
     expect_upgrade(&rt, none, new, want);
@@ -113,7 +112,7 @@ fn refusals_of_an_upgrade(rt: HostRuntime) {
     expect_upgrade(&rt, old, new, NOT_A_STORE);
     expect_zeros(&rt, new);
     // A NEW of another length is left as it was.
-    let _ = make_old_store(&rt, old);
+    make_old_store(&rt, old);
     write(&rt, new, b"short");
     expect_upgrade(&rt, old, new, NOT_A_STORE);
     expect_file(&rt, new, b"short");
@@ -125,7 +124,7 @@ fn refusals_of_an_upgrade(rt: HostRuntime) {
     remove(&rt, new);
 }
 
-const TEXTS: [(UpgradeFault, &str); 5] = [
+const TEXTS: &[(UpgradeFault, &str)] = &[
     (UpgradeFault::Store(StoreFault::NotAStore), "not a store"),
     (
         UpgradeFault::Store(StoreFault::NewVersion),
@@ -139,6 +138,6 @@ const TEXTS: [(UpgradeFault, &str); 5] = [
 #[test]
 fn faults_of_an_upgrade_are_printed_in_these_words(rt: HostRuntime) {
     for (fault, wanted) in TEXTS {
-        expect_text(&rt, &CommandFault::Upgrade(fault), wanted);
+        expect_text(&rt, &CommandFault::Upgrade(*fault), wanted);
     }
 }
