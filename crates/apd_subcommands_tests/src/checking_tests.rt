@@ -1,7 +1,7 @@
 use crate::expect::{expect, expect_file, hold, open, protect, read, remove, remove_any, write};
 use crate::scripting_tests::{
-    JOINS, add_fault, end_of, expect_script, make_old_store, make_store, make_store_behind,
-    put_over,
+    JOINS, add_fault, expect_script, make_old_store, make_store, make_store_behind, put_over,
+    script_fault_of,
 };
 use crate::words::matches_of;
 use apd_conf::Confs;
@@ -83,7 +83,7 @@ fn make_store_of_two(rt: &(impl Abort + Files<File = File> + AllocGlobal), name:
     make_store(rt, name);
     let confs = two_interfaces(rt);
     let disk = open(rt, name, Access::Write);
-    let fault = end_of(alloc, disk, confs, LISTS, &mut Vec::new(alloc));
+    let fault = script_fault_of(alloc, disk, confs, LISTS, &mut Vec::new(alloc));
     hold(rt, fault.is_none());
 }
 

@@ -66,7 +66,7 @@ pub fn put_over(
 }
 
 /// What ends a script on the store of a device, if anything does.
-pub fn end_of<D: Disk + Drop, I: BufRead + Drop, W: Write>(
+pub fn script_fault_of<D: Disk + Drop, I: BufRead + Drop, W: Write>(
     alloc: Global,
     disk: D,
     confs: Confs,
@@ -92,7 +92,7 @@ fn fault_of(
     match open_disk(rt, name, Access::Write) {
         Ok(disk) => {
             let confs = new_confs(rt, rt.alloc());
-            let fault = end_of(rt.alloc(), disk, confs, script, out)?;
+            let fault = script_fault_of(rt.alloc(), disk, confs, script, out)?;
             Some(CommandFault::Script(fault))
         }
         Err(fault) => Some(CommandFault::Open(fault)),
@@ -193,7 +193,7 @@ fn give_up<I: BufRead + Drop, W: Write>(
 ) -> ScriptFault {
     let confs = new_confs(rt, rt.alloc());
     let disk = FuseDisk::new(open(rt, name, Access::Write), calls);
-    let fault = end_of(rt.alloc(), disk, confs, reader, writer);
+    let fault = script_fault_of(rt.alloc(), disk, confs, reader, writer);
     fault.expect(rt, "a fault")
 }
 

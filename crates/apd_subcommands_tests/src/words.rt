@@ -12,7 +12,7 @@ pub fn parse<'a>(
     command.try_get_matches_from(words)
 }
 
-/// What words match that are right.
+/// What the words of a right command line match.
 pub fn matches_of<'a>(rt: &(impl Abort + AllocGlobal), words: &'a [&'a str]) -> ArgMatches<'a> {
     parse(rt, words).ok().expect(rt, "words that are right")
 }
