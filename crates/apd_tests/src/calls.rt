@@ -3,10 +3,15 @@
 use crate::expect::expect;
 use apd_base::{AclMode, Addr, Aid, Association, Bssid, Policy, Station, StationNumber};
 use apd_conf::{AddressList, Conf, Confs, InterfaceName, read_list};
+use apd_frame::Frame;
+use apd_mlme::{Decision, Event, Out, decide};
 use apd_record::Change;
 use apd_table::{Table, TableFault};
 use std::alloc::Global;
 use std::process::Abort;
+
+/// The radio of the decisions.
+pub const RADIO: Bssid = Bssid(Addr([2, 0, 0, 0, 0, 1]));
 
 /// The built-in configuration.
 pub fn built_in_conf(rt: &impl Abort, alloc: Global) -> Conf {
@@ -102,6 +107,16 @@ pub fn apply(table: &mut Table, change: &Change) -> Result<(), TableFault> {
     table.apply(change)
 }
 
+/// What several changes at once are answered.
+pub fn apply_all(alloc: Global, table: &mut Table, changes: &[Change]) -> Result<(), TableFault> {
+    table.apply_all(alloc, changes)
+}
+
+/// The identifier that a BSSID gives next.
+pub fn next_free(table: &Table, bssid: Bssid) -> Option<u16> {
+    table.next_free(bssid)
+}
+
 /// Makes changes one after another, each of which has to be taken.
 pub fn takes(rt: &impl Abort, table: &mut Table, changes: &[Change]) {
     for change in changes {
@@ -121,4 +136,52 @@ pub fn table_of(rt: &impl Abort, alloc: Global, changes: &[Change]) -> Table {
     let mut table = Table::new(alloc);
     takes(rt, &mut table, changes);
     table
+}
+
+/// What the start of the radio with these list files brings about.
+pub fn start(
+    rt: &impl Abort,
+    alloc: Global,
+    table: &Table,
+    confs: &Confs,
+    [accept_file, deny_file]: [&[u8]; 2],
+) -> Decision {
+    let accept = addresses_of(rt, alloc, accept_file);
+    let deny = addresses_of(rt, alloc, deny_file);
+    assert!(rt; confs.with_bssid(RADIO).is_some());
+    assert!(rt; table.bss_count() < 8);
+    let event = Event::Configure {
+        bssid: RADIO,
+        accept: accept.as_slice(),
+        deny: deny.as_slice(),
+    };
+    decide(alloc, table, confs, event).expect(rt, "memory")
+}
+
+/// What it brings about with two empty lists, where the radio denies whom it doesn't accept.
+pub fn closed_start(rt: &impl Abort, alloc: Global, table: &Table) -> Decision {
+    let confs = confs_in_mode(rt, alloc, AclMode::DenyUnlessAccepted);
+    start(rt, alloc, table, &confs, [b"", b""])
+}
+
+/// What a frame that the radio heard brings about.
+pub fn hear(
+    rt: &impl Abort,
+    alloc: Global,
+    table: &Table,
+    confs: &Confs,
+    frame: Frame<'_>,
+) -> Decision {
+    assert!(rt; confs.with_bssid(RADIO).is_some());
+    assert!(rt; table.policy(RADIO).is_some());
+    let decision = decide(alloc, table, confs, Event::Heard(RADIO, frame));
+    decision.expect(rt, "memory")
+}
+
+/// The frame of an out, if it is one.
+pub fn frame_of(out: &Out) -> Option<&[u8]> {
+    match out {
+        Out::Frame(frame) => Some(frame.as_slice()),
+        Out::Install(..) | Out::Remove(_) | Out::Text(..) => None,
+    }
 }

@@ -129,83 +129,7 @@ fn the_first_faulty_line_is_told(rt: HostRuntime) {
     expect_faults(&rt, rt.alloc(), &FAULTY);
 }
 
-// A line that is taken leaves the interface missing.
-#[test]
-fn names_and_addresses_at_their_ends_and_beyond(rt: HostRuntime) {
-    for (line, is_taken) in [
-        ("interface=!", true),
-        ("interface=~~~~~~~~~~~~~~~", true),
-        ("interface=~~~~~~~~~~~~~~~~", false),
-        ("interface=", false),
-        ("interface= ", false),
-        ("interface=\u{7f}", false),
-        ("bssid=fe:ff:ff:ff:ff:FF", true),
-        ("bssid=01:00:00:00:00:00", false),
-        ("bssid=02:00:00:00:00:1", false),
-        ("ssid=n", true),
-        ("ssid=01234567890123456789012345678901", true),
-        ("ssid=012345678901234567890123456789012", false),
-        ("hw_mode=a", true),
-        ("hw_mode=b", true),
-        ("hw_mode=g", true),
-        ("hw_mode=", false),
-        ("hw_mode=n", false),
-    ] {
-        check_line(&rt, rt.alloc(), line, is_taken);
-    }
-}
-
-#[test]
-fn numbers_at_their_ends_and_beyond(rt: HostRuntime) {
-    for (line, is_taken) in [
-        ("channel=0", true),
-        ("channel=196", true),
-        ("channel=-1", false),
-        ("beacon_int=14", false),
-        ("beacon_int=15", true),
-        ("beacon_int=65535", true),
-        ("beacon_int=65536", false),
-        ("max_num_sta=0", true),
-        ("max_num_sta=2007", true),
-        ("max_num_sta=2008", false),
-        ("auth_algs=0", false),
-        ("auth_algs=1", true),
-        ("auth_algs=3", true),
-        ("auth_algs=4", false),
-        ("ap_max_inactivity=0", false),
-        ("ap_max_inactivity=1", true),
-        ("ap_max_inactivity=2147483647", true),
-        ("ap_max_inactivity=2147483648", false),
-        ("ignore_broadcast_ssid=0", true),
-        ("ignore_broadcast_ssid=2", true),
-        ("ignore_broadcast_ssid=3", false),
-        ("max_listen_interval=0", true),
-        ("max_listen_interval=65535", true),
-        ("max_listen_interval=65536", false),
-        ("macaddr_acl=0", true),
-        ("macaddr_acl=1", true),
-    ] {
-        check_line(&rt, rt.alloc(), line, is_taken);
-    }
-}
-
-#[test]
-fn the_name_of_a_list_file_is_a_text_and_not_empty(rt: HostRuntime) {
-    for (line, is_taken) in [
-        ("accept_mac_file=x", true),
-        ("accept_mac_file=\u{e9}", true),
-        ("accept_mac_file=", false),
-        ("deny_mac_file=x", true),
-        ("deny_mac_file=", false),
-    ] {
-        check_line(&rt, rt.alloc(), line, is_taken);
-    }
-    for line in [b"accept_mac_file=\xff".as_slice(), b"deny_mac_file=x\xc3"] {
-        let fault = fault_of(rt.alloc(), line);
-        expect(&rt, fault, Some(ConfFault::BadValue(1)));
-    }
-}
-
+// A line alone: one that is taken leaves the interface missing.
 fn check_line(rt: &impl Abort, alloc: Global, line: &str, is_taken: bool) {
     let fault = fault_of(alloc, line.as_bytes());
     let is_missing = matches!(&fault, Some(ConfFault::Missing(_)));
@@ -216,35 +140,121 @@ fn check_line(rt: &impl Abort, alloc: Global, line: &str, is_taken: bool) {
     }
 }
 
-#[test]
-fn numbers_have_one_to_ten_digits(rt: HostRuntime) {
-    for (line, is_taken) in [
-        ("channel=", false),
-        ("channel=7", true),
-        ("channel=0000000007", true),
-        ("channel=00000000007", false),
-        ("channel=9999999999", false),
-        ("channel=+7", false),
-        ("channel= 7", false),
-        ("channel=7 ", false),
-        ("channel=0x7", false),
-    ] {
-        check_line(&rt, rt.alloc(), line, is_taken);
+// Whether each line alone is taken.
+fn check_lines(rt: &impl Abort, alloc: Global, rows: &[(&str, bool)]) {
+    for (line, is_taken) in rows {
+        check_line(rt, alloc, line, *is_taken);
     }
 }
 
+const NAMES_AND_ADDRESSES: [(&str, bool); 17] = [
+    ("interface=!", true),
+    ("interface=~~~~~~~~~~~~~~~", true),
+    ("interface=~~~~~~~~~~~~~~~~", false),
+    ("interface=", false),
+    ("interface= ", false),
+    ("interface=\u{7f}", false),
+    ("bssid=fe:ff:ff:ff:ff:FF", true),
+    ("bssid=01:00:00:00:00:00", false),
+    ("bssid=02:00:00:00:00:1", false),
+    ("ssid=n", true),
+    ("ssid=01234567890123456789012345678901", true),
+    ("ssid=012345678901234567890123456789012", false),
+    ("hw_mode=a", true),
+    ("hw_mode=b", true),
+    ("hw_mode=g", true),
+    ("hw_mode=", false),
+    ("hw_mode=n", false),
+];
+
+#[test]
+fn names_and_addresses_at_their_ends_and_beyond(rt: HostRuntime) {
+    check_lines(&rt, rt.alloc(), &NAMES_AND_ADDRESSES);
+}
+
+const NUMBERS: [(&str, bool); 26] = [
+    ("channel=0", true),
+    ("channel=196", true),
+    ("channel=-1", false),
+    ("beacon_int=14", false),
+    ("beacon_int=15", true),
+    ("beacon_int=65535", true),
+    ("beacon_int=65536", false),
+    ("max_num_sta=0", true),
+    ("max_num_sta=2007", true),
+    ("max_num_sta=2008", false),
+    ("auth_algs=0", false),
+    ("auth_algs=1", true),
+    ("auth_algs=3", true),
+    ("auth_algs=4", false),
+    ("ap_max_inactivity=0", false),
+    ("ap_max_inactivity=1", true),
+    ("ap_max_inactivity=2147483647", true),
+    ("ap_max_inactivity=2147483648", false),
+    ("ignore_broadcast_ssid=0", true),
+    ("ignore_broadcast_ssid=2", true),
+    ("ignore_broadcast_ssid=3", false),
+    ("max_listen_interval=0", true),
+    ("max_listen_interval=65535", true),
+    ("max_listen_interval=65536", false),
+    ("macaddr_acl=0", true),
+    ("macaddr_acl=1", true),
+];
+
+#[test]
+fn numbers_at_their_ends_and_beyond(rt: HostRuntime) {
+    check_lines(&rt, rt.alloc(), &NUMBERS);
+}
+
+const LIST_FILES: [(&str, bool); 5] = [
+    ("accept_mac_file=x", true),
+    ("accept_mac_file=\u{e9}", true),
+    ("accept_mac_file=", false),
+    ("deny_mac_file=x", true),
+    ("deny_mac_file=", false),
+];
+
+// A line alone has a bad value.
+fn expect_bad_value(rt: &impl Abort, alloc: Global, line: &[u8]) {
+    expect(rt, fault_of(alloc, line), Some(ConfFault::BadValue(1)));
+}
+
+#[test]
+fn the_name_of_a_list_file_is_a_text_and_not_empty(rt: HostRuntime) {
+    check_lines(&rt, rt.alloc(), &LIST_FILES);
+    expect_bad_value(&rt, rt.alloc(), b"accept_mac_file=\xff");
+    expect_bad_value(&rt, rt.alloc(), b"deny_mac_file=x\xc3");
+}
+
+const DIGITS: [(&str, bool); 9] = [
+    ("channel=", false),
+    ("channel=7", true),
+    ("channel=0000000007", true),
+    ("channel=00000000007", false),
+    ("channel=9999999999", false),
+    ("channel=+7", false),
+    ("channel= 7", false),
+    ("channel=7 ", false),
+    ("channel=0x7", false),
+];
+
+#[test]
+fn numbers_have_one_to_ten_digits(rt: HostRuntime) {
+    check_lines(&rt, rt.alloc(), &DIGITS);
+}
+
+const WITHOUT_EFFECT: [(&str, bool); 8] = [
+    ("wmm_ac_=", true),
+    ("tx_queue_data3_aifs=x", true),
+    ("vht_oper_chwidth==", true),
+    ("country_code=", true),
+    ("skip_inactivity_poll=1", true),
+    ("wpa=0", true),
+    ("ieee8021x=0", true),
+    ("#wpa=1", true),
+];
+
 #[test]
 fn names_without_effect_take_any_value(rt: HostRuntime) {
-    for line in [
-        "wmm_ac_=",
-        "tx_queue_data3_aifs=x",
-        "vht_oper_chwidth==",
-        "country_code=",
-        "skip_inactivity_poll=1",
-        "wpa=0",
-        "ieee8021x=0",
-        "#wpa=1",
-    ] {
-        check_line(&rt, rt.alloc(), line, true);
-    }
+    check_lines(&rt, rt.alloc(), &WITHOUT_EFFECT);
 }

@@ -1,9 +1,8 @@
 use crate::calls::{addresses_of, built_in_conf, copied_radios, radios};
-use crate::expect::expect;
+use crate::expect::{expect, expect_printed};
 use apd_base::{AclMode, Addr, Bssid};
 use apd_conf::{AddressList, Conf, ConfFault, Confs, ConfsFault, FileName, ListFault, Required};
 use std::alloc::Global;
-use std::fmt::Display;
 use std::process::Abort;
 
 #[test]
@@ -121,47 +120,41 @@ fn eight_configurations_are_taken(rt: HostRuntime) {
     expect(&rt, last.map(|conf| conf.bssid.0.0[5]), Some(8));
 }
 
-// A fault is printed in these words.
-fn expect_printed<F: Display + Drop>(rt: &impl Abort, alloc: Global, fault: F, wanted: &str) {
-    let text = format!(in alloc; "{fault}").expect(rt, "memory");
-    expect(rt, text.as_str(), wanted);
-}
+const CONF_FAULTS: [(ConfFault, &str); 8] = [
+    (ConfFault::NoEquals(3), "line 3: no '='"),
+    (ConfFault::Unknown(1), "line 1: unknown name"),
+    (ConfFault::BadValue(12), "line 12: bad value"),
+    (ConfFault::Security(2), "line 2: security is not supported"),
+    (ConfFault::Missing(Required::Interface), "missing interface"),
+    (ConfFault::Missing(Required::Bssid), "missing bssid"),
+    (ConfFault::Missing(Required::Ssid), "missing ssid"),
+    (ConfFault::NoMemory, "out of memory"),
+];
 
 #[test]
 fn a_fault_of_a_configuration_file_is_printed_in_these_words(rt: HostRuntime) {
-    for (fault, want) in [
-        (ConfFault::NoEquals(3), "line 3: no '='"),
-        (ConfFault::Unknown(1), "line 1: unknown name"),
-        (ConfFault::BadValue(12), "line 12: bad value"),
-        (ConfFault::Security(2), "line 2: security is not supported"),
-        (ConfFault::Missing(Required::Interface), "missing interface"),
-        (ConfFault::Missing(Required::Bssid), "missing bssid"),
-        (ConfFault::Missing(Required::Ssid), "missing ssid"),
-        (ConfFault::NoMemory, "out of memory"),
-    ] {
-        expect_printed(&rt, rt.alloc(), fault, want);
-    }
+    expect_printed(&rt, rt.alloc(), &CONF_FAULTS);
 }
+
+const LIST_FAULTS: [(ListFault, &str); 3] = [
+    (ListFault::BadAddress(3), "line 3: bad address"),
+    (ListFault::TooMany, "too many addresses"),
+    (ListFault::NoMemory, "out of memory"),
+];
 
 #[test]
 fn a_fault_of_a_list_file_is_printed_in_these_words(rt: HostRuntime) {
-    for (fault, want) in [
-        (ListFault::BadAddress(3), "line 3: bad address"),
-        (ListFault::TooMany, "too many addresses"),
-        (ListFault::NoMemory, "out of memory"),
-    ] {
-        expect_printed(&rt, rt.alloc(), fault, want);
-    }
+    expect_printed(&rt, rt.alloc(), &LIST_FAULTS);
 }
+
+const CONFS_FAULTS: [(ConfsFault, &str); 4] = [
+    (ConfsFault::Empty, "no configuration"),
+    (ConfsFault::TooMany, "too many interfaces"),
+    (ConfsFault::SameInterface(1), "interface given twice"),
+    (ConfsFault::SameBssid(1), "bssid given twice"),
+];
 
 #[test]
 fn a_fault_of_a_list_of_configurations_is_printed_in_these_words(rt: HostRuntime) {
-    for (fault, want) in [
-        (ConfsFault::Empty, "no configuration"),
-        (ConfsFault::TooMany, "too many interfaces"),
-        (ConfsFault::SameInterface(1), "interface given twice"),
-        (ConfsFault::SameBssid(1), "bssid given twice"),
-    ] {
-        expect_printed(&rt, rt.alloc(), fault, want);
-    }
+    expect_printed(&rt, rt.alloc(), &CONFS_FAULTS);
 }

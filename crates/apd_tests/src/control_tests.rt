@@ -13,7 +13,9 @@ use apd_table::Table;
 use std::alloc::Global;
 use std::process::Abort;
 
-const BSSID: Bssid = Bssid(Addr([2, 0, 0, 0, 0, 1]));
+const ADDRESS: Addr = Addr([2, 0, 0, 0, 0, 1]);
+
+const BSSID: Bssid = Bssid(ADDRESS);
 
 const OTHER: Bssid = Bssid(Addr([2, 0, 0, 0, 0, 2]));
 
@@ -26,62 +28,101 @@ fn parse(text: &[u8]) -> Parsed<'_> {
     parse_command(text)
 }
 
-/// A text is this command, with no interface named.
-fn expect_command(rt: &impl Abort, text: &[u8], command: Command) {
+/// Each text is this command, with no interface named.
+fn expect_commands(rt: &impl Abort, rows: &[(&[u8], Command)]) {
     let interface = None;
-    expect(rt, parse(text), Parsed::Command { interface, command });
+    for (text, command) in rows {
+        let command = *command;
+        expect(rt, parse(text), Parsed::Command { interface, command });
+    }
 }
+
+const QUERIES: [(&[u8], Command); 8] = [
+    (b"PING", Command::Ping),
+    (b"PING\n", Command::Ping),
+    (b"STATUS", Command::Status),
+    (b"STA 02:00:00:00:00:AA", Command::Sta(A)),
+    (b"STA-FIRST", Command::StaFirst),
+    (b"STA-NEXT 02:00:00:00:00:aa\n", Command::StaNext(A)),
+    (b"ACCEPT_ACL SHOW", Command::Show(Which::Accept)),
+    (b"DENY_ACL SHOW", Command::Show(Which::Deny)),
+];
 
 #[test]
 fn queries_are_read(rt: HostRuntime) {
-    for (text, command) in [
-        (b"PING".as_slice(), Command::Ping),
-        (b"PING\n", Command::Ping),
-        (b"STATUS", Command::Status),
-        (b"STA 02:00:00:00:00:AA", Command::Sta(A)),
-        (b"STA-FIRST", Command::StaFirst),
-        (b"STA-NEXT 02:00:00:00:00:aa\n", Command::StaNext(A)),
-        (b"ACCEPT_ACL SHOW", Command::Show(Which::Accept)),
-        (b"DENY_ACL SHOW", Command::Show(Which::Deny)),
-    ] {
-        expect_command(&rt, text, command);
-    }
+    expect_commands(&rt, &QUERIES);
 }
+
+const DISMISSALS: [(&[u8], Command); 5] = [
+    (
+        b"DISASSOCIATE 02:00:00:00:00:aa",
+        Command::Disassociate {
+            to: A,
+            reason: Reason(2),
+        },
+    ),
+    (
+        b"DISASSOCIATE 02:00:00:00:00:aa reason=0",
+        Command::Disassociate {
+            to: A,
+            reason: Reason(0),
+        },
+    ),
+    (
+        b"DISASSOCIATE 02:00:00:00:00:aa reason=00001",
+        Command::Disassociate {
+            to: A,
+            reason: Reason(1),
+        },
+    ),
+    (
+        b"DISASSOCIATE 02:00:00:00:00:aa reason=65535",
+        Command::Disassociate {
+            to: A,
+            reason: Reason(65535),
+        },
+    ),
+    (
+        b"DEAUTHENTICATE 02:00:00:00:00:aa",
+        Command::Deauthenticate {
+            to: A,
+            reason: Reason(2),
+        },
+    ),
+];
 
 #[test]
 fn dismissals_are_read(rt: HostRuntime) {
-    let to = A;
-    for (text, reason) in [
-        (b"DISASSOCIATE 02:00:00:00:00:aa".as_slice(), 2),
-        (b"DISASSOCIATE 02:00:00:00:00:aa reason=0", 0),
-        (b"DISASSOCIATE 02:00:00:00:00:aa reason=00001", 1),
-        (b"DISASSOCIATE 02:00:00:00:00:aa reason=65535", 65535),
-    ] {
-        let reason = Reason(reason);
-        expect_command(&rt, text, Command::Disassociate { to, reason });
-    }
-    let text = b"DEAUTHENTICATE 02:00:00:00:00:aa";
-    let reason = Reason(2);
-    expect_command(&rt, text, Command::Deauthenticate { to, reason });
+    expect_commands(&rt, &DISMISSALS);
 }
+
+const LIST_EDITS: [(&[u8], Command); 3] = [
+    (
+        b"ACCEPT_ACL ADD_MAC 02:00:00:00:00:aA",
+        Command::ListEdit {
+            which: Which::Accept,
+            edit: Edit::Add(A),
+        },
+    ),
+    (
+        b"DENY_ACL DEL_MAC 02:00:00:00:00:ab",
+        Command::ListEdit {
+            which: Which::Deny,
+            edit: Edit::Remove(B),
+        },
+    ),
+    (
+        b"DENY_ACL CLEAR",
+        Command::ListEdit {
+            which: Which::Deny,
+            edit: Edit::Clear,
+        },
+    ),
+];
 
 #[test]
 fn list_edits_are_read(rt: HostRuntime) {
-    for (text, which, edit) in [
-        (
-            b"ACCEPT_ACL ADD_MAC 02:00:00:00:00:aA".as_slice(),
-            Which::Accept,
-            Edit::Add(A),
-        ),
-        (
-            b"DENY_ACL DEL_MAC 02:00:00:00:00:ab",
-            Which::Deny,
-            Edit::Remove(B),
-        ),
-        (b"DENY_ACL CLEAR", Which::Deny, Edit::Clear),
-    ] {
-        expect_command(&rt, text, Command::ListEdit { which, edit });
-    }
+    expect_commands(&rt, &LIST_EDITS);
 }
 
 #[test]
@@ -132,39 +173,41 @@ fn all_fail(rt: &impl Abort, texts: &[&[u8]]) {
     }
 }
 
+const WRONG_ARGUMENTS: [&[u8]; 10] = [
+    b"STA",
+    b"STA-FIRST x",
+    b"PING ",
+    b"STA  02:00:00:00:00:aa",
+    b"STA 02:00:00:00:00:aa ",
+    b"DENY_ACL",
+    b"DENY_ACL SHOW x",
+    b"DENY_ACL show",
+    b"ACCEPT_ACL ADD_MAC",
+    b"IFNAME=x STA",
+];
+
 #[test]
 fn arguments_fail(rt: HostRuntime) {
-    let texts = [
-        b"STA".as_slice(),
-        b"STA-FIRST x",
-        b"PING ",
-        b"STA  02:00:00:00:00:aa",
-        b"STA 02:00:00:00:00:aa ",
-        b"DENY_ACL",
-        b"DENY_ACL SHOW x",
-        b"DENY_ACL show",
-        b"ACCEPT_ACL ADD_MAC",
-        b"IFNAME=x STA",
-    ];
-    all_fail(&rt, &texts);
+    all_fail(&rt, &WRONG_ARGUMENTS);
     expect(&rt, parse(b"STA").refusal(), Some(FAIL));
     expect(&rt, parse(b"PING").refusal(), None);
     expect(&rt, FAIL, b"FAIL\n".as_slice());
 }
 
+const WRONG_REASONS: [&[u8]; 8] = [
+    b"DEAUTHENTICATE 02:00:00:00:00:aa reason=65536",
+    b"DEAUTHENTICATE 02:00:00:00:00:aa reason=000001",
+    b"DEAUTHENTICATE 02:00:00:00:00:aa reason=",
+    b"DEAUTHENTICATE 02:00:00:00:00:aa reason=+1",
+    b"DEAUTHENTICATE 02:00:00:00:00:aa  reason=1",
+    b"DEAUTHENTICATE 02:00:00:00:00:aa reason=1 ",
+    b"DEAUTHENTICATE  02:00:00:00:00:aa",
+    b"DEAUTHENTICATE reason=1",
+];
+
 #[test]
 fn reasons_fail(rt: HostRuntime) {
-    let texts = [
-        b"DEAUTHENTICATE 02:00:00:00:00:aa reason=65536".as_slice(),
-        b"DEAUTHENTICATE 02:00:00:00:00:aa reason=000001",
-        b"DEAUTHENTICATE 02:00:00:00:00:aa reason=",
-        b"DEAUTHENTICATE 02:00:00:00:00:aa reason=+1",
-        b"DEAUTHENTICATE 02:00:00:00:00:aa  reason=1",
-        b"DEAUTHENTICATE 02:00:00:00:00:aa reason=1 ",
-        b"DEAUTHENTICATE  02:00:00:00:00:aa",
-        b"DEAUTHENTICATE reason=1",
-    ];
-    all_fail(&rt, &texts);
+    all_fail(&rt, &WRONG_REASONS);
 }
 
 // So many bytes behind a front.
@@ -352,44 +395,47 @@ fn tells_stations(rt: &impl Abort, alloc: Global, rows: &[(Query, &[u8])]) {
     tells(rt, alloc, &table, rows);
 }
 
+const STATIONS: [(Query, &[u8]); 8] = [
+    (Query::First(BSSID), ASSOCIATED),
+    (Query::Sta(BSSID, B), AUTHENTICATED),
+    (Query::Sta(BSSID, ADDRESS), b"FAIL\n"),
+    (Query::Next(BSSID, A), AUTHENTICATED),
+    (Query::Next(BSSID, B), b""),
+    (Query::Next(BSSID, ADDRESS), b"FAIL\n"),
+    (Query::First(OTHER), b"FAIL\n"),
+    (Query::Ping, b"PONG\n"),
+];
+
 #[test]
 fn stations_are_told(rt: HostRuntime) {
-    let rows = [
-        (Query::First(BSSID), ASSOCIATED),
-        (Query::Sta(BSSID, B), AUTHENTICATED),
-        (Query::Sta(BSSID, BSSID.0), b"FAIL\n"),
-        (Query::Next(BSSID, A), AUTHENTICATED),
-        (Query::Next(BSSID, B), b""),
-        (Query::Next(BSSID, BSSID.0), b"FAIL\n"),
-        (Query::First(OTHER), b"FAIL\n"),
-        (Query::Ping, b"PONG\n"),
-    ];
-    tells_stations(&rt, rt.alloc(), &rows);
+    tells_stations(&rt, rt.alloc(), &STATIONS);
 }
+
+const NOTHING: [(Query, &[u8]); 5] = [
+    (Query::First(BSSID), b""),
+    (Query::Next(BSSID, A), b"FAIL\n"),
+    (Query::Sta(BSSID, A), b"FAIL\n"),
+    (Query::Show(BSSID, Which::Deny), b""),
+    (Query::Show(OTHER, Which::Deny), b"FAIL\n"),
+];
 
 #[test]
 fn an_empty_table_tells_nothing(rt: HostRuntime) {
     let table = Table::new(rt.alloc());
-    let rows = [
-        (Query::First(BSSID), b"".as_slice()),
-        (Query::Next(BSSID, A), b"FAIL\n"),
-        (Query::Sta(BSSID, A), b"FAIL\n"),
-        (Query::Show(BSSID, Which::Deny), b""),
-        (Query::Show(OTHER, Which::Deny), b"FAIL\n"),
-    ];
-    tells(&rt, rt.alloc(), &table, &rows);
+    tells(&rt, rt.alloc(), &table, &NOTHING);
 }
+
+const LISTED: [(Query, &[u8]); 2] = [
+    (
+        Query::Show(BSSID, Which::Accept),
+        b"02:00:00:00:00:aa VLAN_ID=0\n02:00:00:00:00:ab VLAN_ID=0\n",
+    ),
+    (Query::Show(BSSID, Which::Deny), b""),
+];
 
 #[test]
 fn lists_are_told_in_order(rt: HostRuntime) {
-    let rows = [
-        (
-            Query::Show(BSSID, Which::Accept),
-            b"02:00:00:00:00:aa VLAN_ID=0\n02:00:00:00:00:ab VLAN_ID=0\n".as_slice(),
-        ),
-        (Query::Show(BSSID, Which::Deny), b""),
-    ];
-    tells_stations(&rt, rt.alloc(), &rows);
+    tells_stations(&rt, rt.alloc(), &LISTED);
 }
 
 // The status of the built-in network with another name, while the radio is up or down.

@@ -1,6 +1,8 @@
 //! Association identifiers go round: which one a BSSID gives next, by the one that it gave last. The numbers
 //! here are those of the rule, worked out by hand.
-use crate::calls::{associated, cursor_of, policy_of, refuses, table_of, takes};
+use crate::calls::{
+    address, associated, cursor_of, next_free, policy_of, refuses, table_of, takes,
+};
 use crate::expect::expect;
 use apd_base::{AclMode, Addr, Bssid};
 use apd_record::Change;
@@ -11,12 +13,6 @@ use std::process::Abort;
 const BSSID: Bssid = Bssid(Addr([2, 0, 0, 0, 0, 1]));
 
 const OTHER: Bssid = Bssid(Addr([2, 0, 0, 0, 0, 2]));
-
-// The address of a station of its own for each number.
-fn address(number: u16) -> Addr {
-    let [high, low] = number.to_be_bytes();
-    Addr([2, 0, 0, 1, high, low])
-}
 
 fn open(rt: &impl Abort, alloc: Global) -> Table {
     table_of(rt, alloc, &[policy_of(BSSID, AclMode::AcceptUnlessDenied)])
@@ -30,14 +26,10 @@ fn point(rt: &impl Abort, table: &mut Table, number: u16) {
 fn associate(rt: &impl Abort, table: &mut Table, number: u16) {
     let put = Change::Put {
         bssid: BSSID,
-        addr: address(number),
+        addr: address(1, number),
         station: associated(rt, number, 0x431, 10),
     };
     takes(rt, table, &[put]);
-}
-
-fn next_free(table: &Table, bssid: Bssid) -> Option<u16> {
-    table.next_free(bssid)
 }
 
 // The numbers that are given one after another: each to a station, and the table goes on to it.
@@ -88,7 +80,7 @@ fn one_that_was_left_waits_for_the_others(rt: HostRuntime) {
     gives(&rt, &mut table, &[1, 2]);
     let left = Change::Drop {
         bssid: BSSID,
-        addr: address(1),
+        addr: address(1, 1),
     };
     takes(&rt, &mut table, &[left]);
     gives(&rt, &mut table, &[3]);

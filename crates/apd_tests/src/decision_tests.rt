@@ -1,7 +1,10 @@
 //! What is decided, and what becomes of the table: who is let in, which identifier is given, what silence ends.
-use crate::calls::{addresses_of, confs_in_mode};
+use crate::calls::{
+    RADIO, address, associated, closed_start, confs_in_mode, cursor_of, frame_of, hear, start,
+    table_of, takes,
+};
 use crate::expect::expect;
-use apd_base::{AclMode, Addr, Aid, Association, Bssid, Sequence, Station, StationNumber, Which};
+use apd_base::{AclMode, Addr, Sequence, Station, Which};
 use apd_conf::Confs;
 use apd_frame::{Authentication, Frame};
 use apd_mlme::{Decision, Event, MAX_RECORD_BYTES, Out, decide};
@@ -10,8 +13,6 @@ use apd_table::Table;
 use std::alloc::Global;
 use std::process::Abort;
 
-const RADIO: Bssid = Bssid(Addr([2, 0, 0, 0, 0, 1]));
-
 const STATION: Addr = Addr([2, 0, 0, 0, 0, 0xaa]);
 
 /// A deauthentication of the station, with reason 1.
@@ -19,76 +20,48 @@ const DEAUTHENTICATION: [u8; 26] = [
     0xc0, 0, 0, 0, 2, 0, 0, 0, 0, 0xaa, 2, 0, 0, 0, 0, 1, 2, 0, 0, 0, 0, 1, 0, 0, 1, 0,
 ];
 
-/// Makes a change that is taken.
-fn change(rt: &impl Abort, table: &mut Table, change: &Change) {
-    table.apply(change).expect(rt, "a change that is taken");
-}
-
-/// Makes the changes of what was decided, and gives that back.
-fn make_changes(rt: &impl Abort, decision: Decision, table: &mut Table) -> Decision {
-    for each in decision.changes.as_slice() {
-        change(rt, table, each);
-    }
-    decision
-}
-
 /// Decides the start of the radio with these list files, and makes its changes.
-fn start_with(
+fn starts(
     rt: &impl Abort,
     alloc: Global,
     table: &mut Table,
     confs: &Confs,
-    [accept_file, deny_file]: [&[u8]; 2],
+    files: [&[u8]; 2],
 ) -> Decision {
-    let accept = addresses_of(rt, alloc, accept_file);
-    let deny = addresses_of(rt, alloc, deny_file);
-    assert!(rt; confs.with_bssid(RADIO).is_some());
-    assert!(rt; table.bss_count() < 8);
-    let event = Event::Configure {
-        bssid: RADIO,
-        accept: accept.as_slice(),
-        deny: deny.as_slice(),
-    };
-    let decision = decide(alloc, table, confs, event).expect(rt, "memory");
-    make_changes(rt, decision, table)
+    let decision = start(rt, alloc, table, confs, files);
+    takes(rt, table, decision.changes.as_slice());
+    decision
 }
 
-/// The same without list files.
-fn start(rt: &impl Abort, alloc: Global, table: &mut Table, confs: &Confs) -> Decision {
-    start_with(rt, alloc, table, confs, [b"", b""])
+/// The same without list files, of a configuration in mode 1.
+fn starts_closed(rt: &impl Abort, alloc: Global, table: &mut Table) -> Decision {
+    let decision = closed_start(rt, alloc, table);
+    takes(rt, table, decision.changes.as_slice());
+    decision
 }
 
-/// The same of a configuration in mode 1.
-fn start_closed(rt: &impl Abort, alloc: Global, table: &mut Table) -> Decision {
-    let closed = confs_in_mode(rt, alloc, AclMode::DenyUnlessAccepted);
-    start(rt, alloc, table, &closed)
+/// A configuration in mode 0.
+fn open_confs(rt: &impl Abort, alloc: Global) -> Confs {
+    confs_in_mode(rt, alloc, AclMode::AcceptUnlessDenied)
 }
 
-/// A table of no radio, and a configuration in mode 0.
-fn new_open(rt: &impl Abort, alloc: Global) -> (Table, Confs) {
-    let open = confs_in_mode(rt, alloc, AclMode::AcceptUnlessDenied);
-    (Table::new(alloc), open)
-}
-
-/// The same once the radio was started.
-fn started(rt: &impl Abort, alloc: Global) -> (Table, Confs) {
-    let (mut table, open) = new_open(rt, alloc);
-    drop(start(rt, alloc, &mut table, &open));
-    (table, open)
+/// The table of a radio that was started without list files.
+fn started(rt: &impl Abort, alloc: Global, open: &Confs) -> Table {
+    let decision = start(rt, alloc, &Table::new(alloc), open, [b"", b""]);
+    table_of(rt, alloc, decision.changes.as_slice())
 }
 
 /// Decides a frame of the station, and makes its changes.
-fn hear(
+fn hears(
     rt: &impl Abort,
     alloc: Global,
     table: &mut Table,
     confs: &Confs,
     frame: Frame<'_>,
 ) -> Decision {
-    assert!(rt; confs.with_bssid(RADIO).is_some());
-    assert!(rt; table.policy(RADIO).is_some());
-    let decision = decide(alloc, table, confs, Event::Heard(RADIO, frame));
-    make_changes(rt, decision.expect(rt, "memory"), table)
+    let decision = hear(rt, alloc, table, confs, frame);
+    takes(rt, table, decision.changes.as_slice());
+    decision
 }
 
 /// Decides an authentication request of the station, and makes its changes.
@@ -99,7 +72,7 @@ fn authenticate(rt: &impl Abort, alloc: Global, table: &mut Table, confs: &Confs
         transaction: 1,
         status: 0,
     };
-    hear(rt, alloc, table, confs, Frame::Auth(request))
+    hears(rt, alloc, table, confs, Frame::Auth(request))
 }
 
 /// Decides an association request of the station, and makes its changes.
@@ -110,7 +83,7 @@ fn associate(rt: &impl Abort, alloc: Global, table: &mut Table, confs: &Confs) -
         listen_interval: 10,
         elements: b"\x00\x03net\x01\x04\x82\x84\x8b\x96",
     };
-    hear(rt, alloc, table, confs, Frame::Assoc(request))
+    hears(rt, alloc, table, confs, Frame::Assoc(request))
 }
 
 /// The frame of a decision that says no more than one.
@@ -145,7 +118,7 @@ fn expect_ending(rt: &impl Abort, decision: &Decision) {
 
 /// A start in mode 1 ends the station.
 fn close(rt: &impl Abort, alloc: Global, table: &mut Table) {
-    let decision = start_closed(rt, alloc, table);
+    let decision = starts_closed(rt, alloc, table);
     expect_ending(rt, &decision);
     expect_station(rt, table, None);
 }
@@ -153,61 +126,57 @@ fn close(rt: &impl Abort, alloc: Global, table: &mut Table) {
 #[test]
 fn a_start_in_mode_1_ends_a_station_that_mode_0_let_in(rt: HostRuntime) {
     let alloc = rt.alloc();
-    let (mut table, open) = started(&rt, alloc);
+    let open = open_confs(&rt, alloc);
+    let mut table = started(&rt, alloc, &open);
     ask(&rt, alloc, &mut table, &open, Some(Station::Authenticated));
     close(&rt, alloc, &mut table);
 }
 
-/// The station on a list of the radio.
-fn list_station(which: Which) -> Change {
-    Change::ListAdd {
-        bssid: RADIO,
-        which,
-        addr: STATION,
-    }
-}
+/// The station on the deny list, and on the accept list.
+const DENY: Change = Change::ListAdd {
+    bssid: RADIO,
+    which: Which::Deny,
+    addr: STATION,
+};
+
+const ACCEPT: Change = Change::ListAdd {
+    bssid: RADIO,
+    which: Which::Accept,
+    addr: STATION,
+};
 
 /// A deny list keeps the station out, and an accept list lets it in, in both modes.
 #[test]
 fn lists_say_who_is_let_in(rt: HostRuntime) {
     let alloc = rt.alloc();
-    let (mut table, open) = started(&rt, alloc);
-    change(&rt, &mut table, &list_station(Which::Deny));
+    let open = open_confs(&rt, alloc);
+    let mut table = started(&rt, alloc, &open);
+    takes(&rt, &mut table, &[DENY]);
     ask(&rt, alloc, &mut table, &open, None);
-    change(&rt, &mut table, &list_station(Which::Accept));
+    takes(&rt, &mut table, &[ACCEPT]);
     ask(&rt, alloc, &mut table, &open, Some(Station::Authenticated));
-    drop(start_closed(&rt, alloc, &mut table));
+    drop(starts_closed(&rt, alloc, &mut table));
     expect_station(&rt, &table, Some(Station::Authenticated));
-}
-
-/// An address in a list of the radio.
-fn list_row(which: Which, last: u8) -> Change {
-    Change::ListAdd {
-        bssid: RADIO,
-        which,
-        addr: Addr([2, 0, 0, 0, 0, last]),
-    }
 }
 
 fn first(changes: &Sequence<Change>) -> Option<Change> {
     changes.as_slice().first().copied()
 }
 
-/// The addresses that a first start takes over, behind its policy.
-const TAKEN_OVER: [(Which, u8); 3] = [
-    (Which::Accept, 0xaa),
-    (Which::Accept, 0xbb),
-    (Which::Deny, 0xcc),
+/// What a first start takes over behind its policy.
+const TAKEN_OVER: [Change; 3] = [
+    ACCEPT,
+    Change::ListAdd {
+        bssid: RADIO,
+        which: Which::Accept,
+        addr: Addr([2, 0, 0, 0, 0, 0xbb]),
+    },
+    Change::ListAdd {
+        bssid: RADIO,
+        which: Which::Deny,
+        addr: Addr([2, 0, 0, 0, 0, 0xcc]),
+    },
 ];
-
-fn rows() -> [Change; 3] {
-    let [first, second, third] = TAKEN_OVER;
-    [
-        list_row(first.0, first.1),
-        list_row(second.0, second.1),
-        list_row(third.0, third.1),
-    ]
-}
 
 /// A start in mode 0 with these list files takes them over, and gives its first change, the policy.
 fn expect_taken_over(
@@ -217,8 +186,8 @@ fn expect_taken_over(
     open: &Confs,
     files: [&[u8]; 2],
 ) -> Option<Change> {
-    let began = start_with(rt, alloc, table, open, files);
-    expect(rt, began.changes.as_slice().get(1..), Some(&rows()));
+    let began = starts(rt, alloc, table, open, files);
+    expect(rt, began.changes.as_slice().get(1..), Some(&TAKEN_OVER));
     first(&began.changes)
 }
 
@@ -230,7 +199,7 @@ fn expect_one_change(
     open: &Confs,
     (files, change): ([&[u8]; 2], Option<Change>),
 ) {
-    let later = start_with(rt, alloc, table, open, files);
+    let later = starts(rt, alloc, table, open, files);
     let changes = &later.changes;
     expect(rt, (changes.len(), first(changes)), (1, change));
 }
@@ -241,7 +210,8 @@ fn lists_come_with_the_first_start_alone(rt: HostRuntime) {
     let alloc = rt.alloc();
     let accept = b"02:00:00:00:00:bb\n02:00:00:00:00:aa\n".as_slice();
     let deny = b"02:00:00:00:00:cc\n".as_slice();
-    let (mut table, open) = new_open(&rt, alloc);
+    let open = open_confs(&rt, alloc);
+    let mut table = Table::new(alloc);
     let policy = expect_taken_over(&rt, alloc, &mut table, &open, [accept, deny]);
     expect_one_change(&rt, alloc, &mut table, &open, ([deny, accept], policy));
 }
@@ -251,18 +221,12 @@ const NO_MORE_STATIONS: [u8; 30] = [
     0xb0, 0, 0, 0, 2, 0, 0, 0, 0, 0xaa, 2, 0, 0, 0, 0, 1, 2, 0, 0, 0, 0, 1, 0, 0, 0, 0, 2, 0, 17, 0,
 ];
 
-/// A station that is associated under an identifier.
-fn member(aid: Aid) -> Change {
-    let [low, high] = aid.number.to_le_bytes();
-    let association = Association {
-        aid,
-        capability: 0x431,
-        listen_interval: 10,
-    };
+/// A station of its own for each identifier.
+fn member(rt: &impl Abort, number: u16) -> Change {
     Change::Put {
         bssid: RADIO,
-        addr: Addr([2, 0, 0, 1, high, low]),
-        station: Station::Associated(association),
+        addr: address(1, number),
+        station: associated(rt, number, 0x431, 10),
     }
 }
 
@@ -272,15 +236,12 @@ fn the_most_records_of_an_event(rt: HostRuntime) {
     expect(&rt, MAX_RECORD_BYTES, 28_682);
 }
 
-/// The identifier of a number.
-fn aid(rt: &impl Abort, number: u16) -> Aid {
-    Aid::new(number).expect(rt, "an identifier")
-}
-
-/// Others get these identifiers.
-fn others_come(rt: &impl Abort, table: &mut Table, last: u16) {
-    for number in 1..=last {
-        change(rt, table, &member(aid(rt, number)));
+/// Others get all identifiers but this one.
+fn others_come(rt: &impl Abort, table: &mut Table, left: u16) {
+    for number in 1..=2007 {
+        if number != left {
+            takes(rt, table, &[member(rt, number)]);
+        }
     }
 }
 
@@ -304,10 +265,11 @@ fn expect_no_room(rt: &impl Abort, alloc: Global, table: &mut Table, open: &Conf
 #[test]
 fn the_2008th_station_finds_no_room(rt: HostRuntime) {
     let alloc = rt.alloc();
-    let (mut table, open) = started(&rt, alloc);
-    others_come(&rt, &mut table, 2006);
+    let open = open_confs(&rt, alloc);
+    let mut table = started(&rt, alloc, &open);
+    others_come(&rt, &mut table, 2007);
     expect_room(&rt, &table, 2006, Some(2007));
-    change(&rt, &mut table, &member(aid(&rt, 2007)));
+    takes(&rt, &mut table, &[member(&rt, 2007)]);
     expect_room(&rt, &table, 2007, None);
     expect_no_room(&rt, alloc, &mut table, &open);
     expect_room(&rt, &table, 2007, None);
@@ -318,18 +280,8 @@ fn put_station(rt: &impl Abort, number: u16) -> Change {
     Change::Put {
         bssid: RADIO,
         addr: STATION,
-        station: Station::Associated(Association {
-            aid: aid(rt, number),
-            capability: 0x431,
-            listen_interval: 10,
-        }),
+        station: associated(rt, number, 0x431, 10),
     }
-}
-
-/// The radio gave this identifier last.
-fn cursor(rt: &impl Abort, number: u16) -> Change {
-    let last = StationNumber::new(number).expect(rt, "a number of stations");
-    Change::Cursor { bssid: RADIO, last }
 }
 
 /// The station is authenticated alone.
@@ -347,8 +299,8 @@ fn associates(rt: &impl Abort, alloc: Global, table: &mut Table, open: &Confs, c
 
 /// The station, which was authenticated alone, gets an identifier, and keeps it.
 fn gets_and_keeps(rt: &impl Abort, alloc: Global, table: &mut Table, open: &Confs, number: u16) {
-    change(rt, table, &BACK);
-    let changes = [put_station(rt, number), cursor(rt, number)];
+    takes(rt, table, &[BACK]);
+    let changes = [put_station(rt, number), cursor_of(rt, RADIO, number)];
     associates(rt, alloc, table, open, &changes);
     associates(rt, alloc, table, open, &[put_station(rt, number)]);
 }
@@ -357,8 +309,9 @@ fn gets_and_keeps(rt: &impl Abort, alloc: Global, table: &mut Table, open: &Conf
 #[test]
 fn an_identifier_comes_with_a_cursor_and_is_kept_without(rt: HostRuntime) {
     let alloc = rt.alloc();
-    let (mut table, open) = started(&rt, alloc);
-    change(&rt, &mut table, &cursor(&rt, 2006));
+    let open = open_confs(&rt, alloc);
+    let mut table = started(&rt, alloc, &open);
+    takes(&rt, &mut table, &[cursor_of(&rt, RADIO, 2006)]);
     // Behind 2007 comes 1.
     for number in [2007, 1, 2] {
         gets_and_keeps(&rt, alloc, &mut table, &open, number);
@@ -367,32 +320,20 @@ fn an_identifier_comes_with_a_cursor_and_is_kept_without(rt: HostRuntime) {
 
 /// Others get all identifiers but this one, which was given last, and the station is authenticated.
 fn give_all_but(rt: &impl Abort, table: &mut Table, number: u16) {
-    for other in 1..=2007 {
-        if other != number {
-            change(rt, table, &member(aid(rt, other)));
-        }
-    }
-    change(rt, table, &cursor(rt, number));
-    change(rt, table, &BACK);
+    others_come(rt, table, number);
+    takes(rt, table, &[cursor_of(rt, RADIO, number), BACK]);
 }
 
 /// The station gets the last identifier again.
 #[test]
 fn where_no_other_is_free_the_last_one_is_given_again(rt: HostRuntime) {
     let alloc = rt.alloc();
-    let (mut table, open) = started(&rt, alloc);
+    let open = open_confs(&rt, alloc);
+    let mut table = started(&rt, alloc, &open);
     give_all_but(&rt, &mut table, 7);
-    let changes = [put_station(&rt, 7), cursor(&rt, 7)];
+    let changes = [put_station(&rt, 7), cursor_of(&rt, RADIO, 7)];
     associates(&rt, alloc, &mut table, &open, &changes);
     expect(&rt, table.next_free(RADIO), None);
-}
-
-/// The frame of an out, if it is one.
-fn frame_of(out: &Out) -> Option<&[u8]> {
-    match out {
-        Out::Frame(frame) => Some(frame.as_slice()),
-        _ => None,
-    }
 }
 
 /// The frame of a decision that lets the station go before it, and says no more.
@@ -415,7 +356,8 @@ fn expire(rt: &impl Abort, alloc: Global, table: &mut Table, confs: &Confs) -> D
         addr: STATION,
     };
     let decision = decide(alloc, table, confs, event).expect(rt, "memory");
-    make_changes(rt, decision, table)
+    takes(rt, table, decision.changes.as_slice());
+    decision
 }
 
 /// A disassociation of the station with reason 4, and a deauthentication with reason 2.
@@ -451,8 +393,9 @@ fn ends_nothing(rt: &impl Abort, alloc: Global, table: &mut Table, open: &Confs)
 #[test]
 fn silence_ends_an_association_and_then_an_authentication(rt: HostRuntime) {
     let alloc = rt.alloc();
-    let (mut table, open) = started(&rt, alloc);
-    change(&rt, &mut table, &put_station(&rt, 1));
+    let open = open_confs(&rt, alloc);
+    let mut table = started(&rt, alloc, &open);
+    takes(&rt, &mut table, &[put_station(&rt, 1)]);
     ends_association(&rt, alloc, &mut table, &open);
     ends_authentication(&rt, alloc, &mut table, &open);
     ends_nothing(&rt, alloc, &mut table, &open);

@@ -1,4 +1,4 @@
-use crate::expect::expect;
+use crate::expect::{expect, expect_printed};
 use apd_base::{Addr, Aid, Bssid};
 use apd_frame::{
     Association, AssociationResponse, Authentication, DSSS_PARAMETER_SET, Element, Frame, Ignored,
@@ -373,35 +373,25 @@ fn encodes_a_probe_response(rt: HostRuntime) {
     expect(&rt, SsidField::from_vec(long).is_none(), true);
 }
 
-// What a reason is printed as.
-fn expect_printed(rt: &impl Abort, alloc: Global, reason: Ignored, wanted: &str) {
-    let text = format!(in alloc; "{reason}").expect(rt, "memory");
-    expect(rt, text.as_str(), wanted);
-}
-
-// Each reason for which a frame is ignored.
-fn prints_words(rt: &impl Abort, alloc: Global) {
-    for (reason, word) in [
-        (Ignored::TooLong, "long"),
-        (Ignored::Short, "short"),
-        (Ignored::Version, "version"),
-        (Ignored::Class, "class"),
-        (Ignored::Fragment, "fragment"),
-        (Ignored::Flags, "flags"),
-        (Ignored::Direction, "direction"),
-        (Ignored::Sender, "sender"),
-        (Ignored::Receiver, "receiver"),
-        (Ignored::OtherBss, "bss"),
-        (Ignored::Subtype, "subtype"),
-        (Ignored::Body, "body"),
-    ] {
-        expect_printed(rt, alloc, reason, word);
-    }
-}
+// What each reason for which a frame is ignored is printed as.
+const WORDS: [(Ignored, &str); 12] = [
+    (Ignored::TooLong, "long"),
+    (Ignored::Short, "short"),
+    (Ignored::Version, "version"),
+    (Ignored::Class, "class"),
+    (Ignored::Fragment, "fragment"),
+    (Ignored::Flags, "flags"),
+    (Ignored::Direction, "direction"),
+    (Ignored::Sender, "sender"),
+    (Ignored::Receiver, "receiver"),
+    (Ignored::OtherBss, "bss"),
+    (Ignored::Subtype, "subtype"),
+    (Ignored::Body, "body"),
+];
 
 #[test]
 fn prints_words_and_has_codes(rt: HostRuntime) {
-    prints_words(&rt, rt.alloc());
+    expect_printed(&rt, rt.alloc(), &WORDS);
     for (status, code) in [
         (Status::Success, 0),
         (Status::RefusedReasonUnspecified, 1),

@@ -1,5 +1,5 @@
 //! The table keeps indices beside its rows: what it tells by them is what a look through all rows would.
-use crate::calls::{apply, associated, cursor_of, policy_of, refuses, table_of, takes};
+use crate::calls::{apply, associated, cursor_of, next_free, policy_of, refuses, table_of, takes};
 use crate::expect::expect;
 use crate::plain_table::PlainTable;
 use apd_base::{AclMode, Addr, Aid, Association, Bssid, Station, Which};
@@ -127,10 +127,6 @@ fn next(table: &Table, bssid: Bssid, above: Option<Addr>) -> Option<(Addr, Stati
 
 fn numbers(table: &Table, bssid: Bssid) -> (usize, Option<u16>) {
     (table.count(bssid), table.least_free(bssid))
-}
-
-fn next_free(table: &Table, bssid: Bssid) -> Option<u16> {
-    table.next_free(bssid)
 }
 
 fn words(table: &Table, bssid: Bssid) -> Option<[u64; 32]> {

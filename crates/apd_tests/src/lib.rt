@@ -41,6 +41,8 @@ mod plain_table;
 #[cfg(test)]
 mod record_tests;
 #[cfg(test)]
+mod table_steps;
+#[cfg(test)]
 mod table_tests;
 #[cfg(test)]
 mod verdict_tests;

@@ -1,14 +1,19 @@
 //! No clause says that a change can be made, nor that a table can be copied: memory may lack. So these calls
 //! are made with ample memory, at the limits too.
-use crate::calls::{associated, cursor_of, policy_of, refuses, table_of, takes};
-use crate::expect::expect;
+use crate::calls::{
+    address, apply_all, associated, cursor_of, next_free, policy_of, refuses, takes,
+};
+use crate::expect::{expect, expect_printed};
+use crate::table_steps::{Ask, BSSID, Step, table_by, take};
 use apd_base::{AclMode, Addr, Bssid, Station, Which};
 use apd_record::{Change, read_all, write};
 use apd_table::{Staged, Table, TableFault};
 use std::alloc::Global;
 use std::process::Abort;
 
-const BSSID: Bssid = Bssid(Addr([2, 0, 0, 0, 0, 1]));
+const OTHER: Bssid = Bssid(Addr([2, 0, 0, 0, 1, 0]));
+
+const THIRD: Bssid = Bssid(Addr([2, 0, 0, 0, 1, 1]));
 
 const FIRST: Addr = Addr([2, 0, 0, 0, 0, 0xaa]);
 
@@ -16,53 +21,6 @@ const SECOND: Addr = Addr([2, 0, 0, 0, 0, 0xbb]);
 
 fn open(bssid: Bssid) -> Change {
     policy_of(bssid, AclMode::AcceptUnlessDenied)
-}
-
-fn closed() -> Change {
-    policy_of(BSSID, AclMode::DenyUnlessAccepted)
-}
-
-fn put(bssid: Bssid, addr: Addr, station: Station) -> Change {
-    Change::Put {
-        bssid,
-        addr,
-        station,
-    }
-}
-
-fn associated_row(rt: &impl Abort, addr: Addr, number: u16) -> Change {
-    put(BSSID, addr, associated(rt, number, 1, 5))
-}
-
-fn authenticated_row(addr: Addr) -> Change {
-    put(BSSID, addr, Station::Authenticated)
-}
-
-fn drop_row(addr: Addr) -> Change {
-    Change::Drop { bssid: BSSID, addr }
-}
-
-fn list(which: Which, addr: Addr) -> Change {
-    Change::ListAdd {
-        bssid: BSSID,
-        which,
-        addr,
-    }
-}
-
-fn take_off(which: Which, addr: Addr) -> Change {
-    Change::ListDel {
-        bssid: BSSID,
-        which,
-        addr,
-    }
-}
-
-fn clear_accept() -> Change {
-    Change::ListClear {
-        bssid: BSSID,
-        which: Which::Accept,
-    }
 }
 
 // How many addresses are on the lists of the BSSID.
@@ -78,53 +36,64 @@ fn denies_first(rt: &impl Abort, alloc: Global, table: &Table) {
     expect(rt, denied.as_slice(), [FIRST].as_slice());
 }
 
-// The first station is put at a BSSID with an open policy, which can't be closed then.
-fn puts_first(rt: &impl Abort, table: &mut Table) {
-    let put = authenticated_row(FIRST);
-    refuses(rt, table, &[put]);
-    takes(rt, table, &[open(BSSID), put]);
-    expect(rt, table.get(BSSID, FIRST), Some(Station::Authenticated));
-    expect(rt, table.policy(BSSID), Some((0, 2007)));
-    refuses(rt, table, &[closed()]);
-}
+// The first station comes to a BSSID with an open policy, which can't be closed then.
+const FIRST_COMES: &[Step] = &[
+    Step::Refuses(&[Ask::Authenticate(BSSID, FIRST)]),
+    Step::Takes(&[Ask::Open(BSSID), Ask::Authenticate(BSSID, FIRST)]),
+    Step::Row(BSSID, FIRST, Some(0)),
+    Step::Refuses(&[Ask::Close(BSSID)]),
+];
+
+const FIRST_GOES: &[Step] = &[Step::Takes(&[Ask::Drop(FIRST), Ask::Close(BSSID)])];
 
 #[test]
 fn stations_and_policies_are_changed(rt: HostRuntime) {
-    let mut table = Table::new(rt.alloc());
-    puts_first(&rt, &mut table);
+    let mut table = table_by(&rt, rt.alloc(), FIRST_COMES);
+    expect(&rt, table.policy(BSSID), Some((0, 2007)));
     denies_first(&rt, rt.alloc(), &table);
     let copy = table.copy(rt.alloc()).expect(&rt, "a copy");
-    takes(&rt, &mut table, &[drop_row(FIRST), closed()]);
+    take(&rt, rt.alloc(), &mut table, FIRST_GOES);
     expect(&rt, (table.count(BSSID), copy.count(BSSID)), (0, 1));
 }
 
 // The first station is put on both lists, and kept on the accept list while it is denied.
-fn lists_first(rt: &impl Abort, table: &mut Table) {
-    let accept = list(Which::Accept, FIRST);
-    let deny = list(Which::Deny, FIRST);
-    takes(rt, table, &[take_off(Which::Accept, FIRST)]);
-    refuses(rt, table, &[accept]);
-    takes(rt, table, &[open(BSSID), authenticated_row(FIRST)]);
-    refuses(rt, table, &[deny]);
-    takes(rt, table, &[accept, deny]);
-    refuses(rt, table, &[clear_accept(), take_off(Which::Accept, FIRST)]);
-}
+const FIRST_IS_LISTED: &[Step] = &[
+    Step::Takes(&[Ask::TakeOff(Which::Accept, FIRST)]),
+    Step::Refuses(&[Ask::List(Which::Accept, FIRST)]),
+    Step::Takes(&[Ask::Open(BSSID), Ask::Authenticate(BSSID, FIRST)]),
+    Step::Refuses(&[Ask::List(Which::Deny, FIRST)]),
+    Step::Takes(&[
+        Ask::List(Which::Accept, FIRST),
+        Ask::List(Which::Deny, FIRST),
+    ]),
+    Step::Refuses(&[
+        Ask::Clear(Which::Accept),
+        Ask::TakeOff(Which::Accept, FIRST),
+    ]),
+];
+
+const LISTS_ARE_CLEARED: &[Step] = &[Step::Takes(&[
+    Ask::TakeOff(Which::Deny, FIRST),
+    Ask::Clear(Which::Accept),
+])];
 
 #[test]
 fn lists_are_changed(rt: HostRuntime) {
-    let mut table = Table::new(rt.alloc());
-    lists_first(&rt, &mut table);
+    let mut table = table_by(&rt, rt.alloc(), FIRST_IS_LISTED);
     expect(&rt, list_lengths(&table), Some((1, 1)));
     expect(&rt, table.allowed(BSSID, FIRST), true);
-    let take_off_deny = take_off(Which::Deny, FIRST);
-    takes(&rt, &mut table, &[take_off_deny, clear_accept()]);
+    take(&rt, rt.alloc(), &mut table, LISTS_ARE_CLEARED);
 }
 
 // The second station is associated, and then the first authenticated.
+const SECOND_COMES: &[Step] = &[Step::Takes(&[Ask::Open(BSSID), Ask::Associate(BSSID, SECOND, 1)])];
+
+const FIRST_FOLLOWS: &[Step] = &[Step::Takes(&[Ask::Authenticate(BSSID, FIRST)])];
+
 fn both_stations(rt: &impl Abort, alloc: Global) -> Table {
-    let mut table = table_of(rt, alloc, &[open(BSSID), associated_row(rt, SECOND, 1)]);
+    let mut table = table_by(rt, alloc, SECOND_COMES);
     expect(rt, table.least_free(BSSID), Some(2));
-    takes(rt, &mut table, &[authenticated_row(FIRST)]);
+    take(rt, alloc, &mut table, FIRST_FOLLOWS);
     table
 }
 
@@ -154,7 +123,11 @@ fn tells_addresses(rt: &impl Abort, alloc: Global, table: &Table) {
 
 // Those that are denied once the second is on the deny list.
 fn tells_denials(rt: &impl Abort, alloc: Global, table: &Table) {
-    let deny = list(Which::Deny, SECOND);
+    let deny = Change::ListAdd {
+        bssid: BSSID,
+        which: Which::Deny,
+        addr: SECOND,
+    };
     let denied = table.denials_after(alloc, BSSID, &deny);
     let denied = denied.expect(rt, "memory");
     expect(rt, denied.as_slice(), [SECOND].as_slice());
@@ -167,26 +140,22 @@ fn addresses_are_told(rt: HostRuntime) {
     tells_denials(&rt, rt.alloc(), &table);
 }
 
-// What a fault is printed as.
-fn expect_printed(rt: &impl Abort, alloc: Global, fault: TableFault, wanted: &str) {
-    let text = format!(in alloc; "{fault}").expect(rt, "memory");
-    expect(rt, text.as_str(), wanted);
-}
+const FAULTS: [(TableFault, &str); 2] = [
+    (TableFault::Invalid, "invalid change"),
+    (TableFault::NoMemory, "out of memory"),
+];
 
 #[test]
 fn faults_say_what_they_are(rt: HostRuntime) {
-    expect_printed(&rt, rt.alloc(), TableFault::Invalid, "invalid change");
-    expect_printed(&rt, rt.alloc(), TableFault::NoMemory, "out of memory");
-}
-
-// A station of its own for each number.
-fn address(number: u16) -> Addr {
-    let [high, low] = number.to_be_bytes();
-    Addr([2, 0, 0, 1, high, low])
+    expect_printed(&rt, rt.alloc(), &FAULTS);
 }
 
 fn row(bssid: Bssid, number: u16) -> Change {
-    put(bssid, address(number), Station::Authenticated)
+    Change::Put {
+        bssid,
+        addr: address(1, number),
+        station: Station::Authenticated,
+    }
 }
 
 // Gives a BSSID a policy, and rows for the stations of the first numbers.
@@ -211,7 +180,11 @@ fn a_bssid_has_2007_stations_and_no_more(rt: HostRuntime) {
     refuses(&rt, &mut table, &[more]);
     // One that has a row is taken.
     let old = row(BSSID, 2006);
-    takes(&rt, &mut table, &[old, drop_row(address(7)), more]);
+    let seventh = Change::Drop {
+        bssid: BSSID,
+        addr: address(1, 7),
+    };
+    takes(&rt, &mut table, &[old, seventh, more]);
     expect(&rt, table.count(BSSID), 2007);
 }
 
@@ -228,7 +201,11 @@ fn eight_bssids_have_16056_stations(rt: HostRuntime) {
 }
 
 fn add(which: Which, number: u16) -> Change {
-    list(which, address(number))
+    Change::ListAdd {
+        bssid: BSSID,
+        which,
+        addr: address(1, number),
+    }
 }
 
 // A first start: a policy, and so many addresses on each list.
@@ -240,11 +217,6 @@ fn first_start(rt: &impl Abort, alloc: Global, accept: u16, deny: u16) -> Vec<Ch
         }
     }
     changes
-}
-
-// What several changes are answered.
-fn apply_all(alloc: Global, table: &mut Table, changes: &[Change]) -> Result<(), TableFault> {
-    table.apply_all(alloc, changes)
 }
 
 fn takes_all(rt: &impl Abort, alloc: Global, table: &mut Table, changes: &[Change]) {
@@ -284,88 +256,99 @@ fn a_first_start_has_1024_addresses_on_each_list_and_no_more(rt: HostRuntime) {
     takes_full_start(&rt, rt.alloc(), &mut table);
     expect_full(&rt, &mut table, Which::Accept);
     expect_full(&rt, &mut table, Which::Deny);
-    let take = take_off(Which::Deny, address(1023));
-    takes(&rt, &mut table, &[take, add(Which::Deny, 1024)]);
+    let take_off = Change::ListDel {
+        bssid: BSSID,
+        which: Which::Deny,
+        addr: address(1, 1023),
+    };
+    takes(&rt, &mut table, &[take_off, add(Which::Deny, 1024)]);
     expect(&rt, list_lengths(&table), Some((1024, 1024)));
 }
 
-// A table with rows of both stations and of number 0, the first of them associated.
-fn three_rows(rt: &impl Abort, alloc: Global) -> Table {
-    let first = associated_row(rt, FIRST, 1);
-    let second = authenticated_row(SECOND);
-    table_of(rt, alloc, &[open(BSSID), row(BSSID, 0), first, second])
-}
+// The stations of some numbers.
+const ZEROTH: Addr = Addr([2, 0, 0, 1, 0, 0]);
 
-// Several changes are taken, and leave this many rows.
-fn leaves(rt: &impl Abort, alloc: Global, table: &mut Table, changes: &[Change], count: usize) {
-    takes_all(rt, alloc, table, changes);
-    expect(rt, table.rows(), count);
-}
+const NEXT: Addr = Addr([2, 0, 0, 1, 0, 1]);
+
+const LAST: Addr = Addr([2, 0, 0, 1, 0, 2]);
+
+// Rows of both stations and of number 0, the first of them associated.
+const THREE_ROWS: &[Step] = &[Step::Takes(&[
+    Ask::Open(BSSID),
+    Ask::Authenticate(BSSID, ZEROTH),
+    Ask::Associate(BSSID, FIRST, 1),
+    Ask::Authenticate(BSSID, SECOND),
+])];
 
 // Both stations are dropped behind a change, after drops behind a refusal.
-fn drops_both(rt: &impl Abort, alloc: Global, table: &mut Table) {
-    refuses_all(rt, alloc, table, &[closed(), drop_row(FIRST)]);
-    expect(rt, table.rows(), 4);
-    let changes = [row(BSSID, 2), drop_row(FIRST), drop_row(SECOND)];
-    leaves(rt, alloc, table, &changes, 3);
-    expect(rt, table.get(BSSID, FIRST), None);
-}
+const DROPS: &[Step] = &[
+    Step::TakesAll(&[]),
+    Step::Rows(3),
+    Step::TakesAll(&[Ask::Authenticate(BSSID, NEXT)]),
+    Step::Rows(4),
+    Step::RefusesAll(&[Ask::Close(BSSID), Ask::Drop(FIRST)]),
+    Step::Rows(4),
+    Step::TakesAll(&[
+        Ask::Authenticate(BSSID, LAST),
+        Ask::Drop(FIRST),
+        Ask::Drop(SECOND),
+    ]),
+    Step::Rows(3),
+    Step::Row(BSSID, FIRST, None),
+    Step::TakesAll(&[Ask::Drop(ZEROTH), Ask::Drop(NEXT)]),
+];
 
 #[test]
 fn drops_come_behind_no_change_and_behind_one(rt: HostRuntime) {
-    let alloc = rt.alloc();
-    let mut table = three_rows(&rt, alloc);
-    leaves(&rt, alloc, &mut table, &[], 3);
-    leaves(&rt, alloc, &mut table, &[row(BSSID, 1)], 4);
-    drops_both(&rt, alloc, &mut table);
-    let changes = [drop_row(address(0)), drop_row(address(1))];
-    takes_all(&rt, alloc, &mut table, &changes);
-    let third = (address(2), Station::Authenticated);
-    expect(&rt, table.first(BSSID), Some(third));
+    let mut table = table_by(&rt, rt.alloc(), THREE_ROWS);
+    take(&rt, rt.alloc(), &mut table, DROPS);
+    let last = (LAST, Station::Authenticated);
+    expect(&rt, table.first(BSSID), Some(last));
 }
 
 // The first station is put back at the BSSID, and associated at another, which has no policy at first.
-fn moves_first(rt: &impl Abort, alloc: Global, table: &mut Table, other: Bssid) {
-    let old = associated(rt, 1, 1, 5);
-    let moved = put(other, FIRST, old);
-    let changes = [authenticated_row(FIRST), moved];
-    refuses_all(rt, alloc, table, &changes);
-    expect(rt, table.get(BSSID, FIRST), Some(old));
-    takes(rt, table, &[open(other)]);
-    refuses(rt, table, &[moved]);
-    takes_all(rt, alloc, table, &changes);
-    expect(rt, table.get(other, FIRST), Some(old));
-}
+const FIRST_MOVES: &[Step] = &[
+    Step::RefusesAll(&[
+        Ask::Authenticate(BSSID, FIRST),
+        Ask::Associate(OTHER, FIRST, 1),
+    ]),
+    Step::Row(BSSID, FIRST, Some(1)),
+    Step::Takes(&[Ask::Open(OTHER)]),
+    Step::Refuses(&[Ask::Associate(OTHER, FIRST, 1)]),
+    Step::TakesAll(&[
+        Ask::Authenticate(BSSID, FIRST),
+        Ask::Associate(OTHER, FIRST, 1),
+    ]),
+    Step::Row(OTHER, FIRST, Some(1)),
+    Step::Row(BSSID, FIRST, Some(0)),
+];
 
 #[test]
 fn an_association_moves(rt: HostRuntime) {
-    let mut table = three_rows(&rt, rt.alloc());
-    moves_first(&rt, rt.alloc(), &mut table, bssid_of(0));
-    expect(&rt, table.get(BSSID, FIRST), Some(Station::Authenticated));
-}
-
-fn next_free(table: &Table, bssid: Bssid) -> Option<u16> {
-    table.next_free(bssid)
+    let mut table = table_by(&rt, rt.alloc(), THREE_ROWS);
+    take(&rt, rt.alloc(), &mut table, FIRST_MOVES);
 }
 
 // Two BSSIDs, of which the second gave no identifier yet, with a list and the rows of stations.
-fn table_with_cursor(rt: &impl Abort, alloc: Global) -> Table {
-    let mut table = three_rows(rt, alloc);
-    let cursor = cursor_of(rt, BSSID, 2006);
-    let accept = add(Which::Accept, 9);
-    takes(rt, &mut table, &[accept, open(bssid_of(0)), cursor]);
-    table
-}
+const WITH_CURSOR: &[Step] = &[Step::Takes(&[
+    Ask::Open(BSSID),
+    Ask::Authenticate(BSSID, ZEROTH),
+    Ask::Associate(BSSID, FIRST, 1),
+    Ask::Authenticate(BSSID, SECOND),
+    Ask::List(Which::Accept, Addr([2, 0, 0, 1, 0, 9])),
+    Ask::Open(OTHER),
+    Ask::Point(BSSID, 2006),
+])];
 
 // The changes of its snapshot.
 fn snapshot_with_cursor(rt: &impl Abort, alloc: Global) -> Vec<Change> {
-    let table = table_with_cursor(rt, alloc);
+    let table = table_by(rt, alloc, WITH_CURSOR);
     table.snapshot(alloc).expect(rt, "memory")
 }
 
 #[test]
 fn a_copy_has_the_cursors(rt: HostRuntime) {
-    let table = table_with_cursor(&rt, rt.alloc());
+    let table = table_by(&rt, rt.alloc(), WITH_CURSOR);
     let copy = table.copy(rt.alloc()).expect(&rt, "a copy");
     expect(&rt, next_free(&copy, BSSID), Some(2007));
 }
@@ -374,8 +357,7 @@ fn a_copy_has_the_cursors(rt: HostRuntime) {
 fn a_snapshot_has_the_cursors_behind_the_policies(rt: HostRuntime) {
     let changes = snapshot_with_cursor(&rt, rt.alloc());
     let cursor = cursor_of(&rt, BSSID, 2006);
-    let other = open(bssid_of(0));
-    let front = [open(BSSID), other, cursor, add(Which::Accept, 9)];
+    let front = [open(BSSID), open(OTHER), cursor, add(Which::Accept, 9)];
     expect(&rt, changes.get(..4), Some(front.as_slice()));
     expect(&rt, changes.len(), 7);
 }
@@ -395,38 +377,33 @@ fn cursors_are_read_back(rt: HostRuntime) {
     let changes = snapshot_with_cursor(&rt, rt.alloc());
     let table = read_back(&rt, rt.alloc(), changes.as_slice());
     expect(&rt, next_free(&table, BSSID), Some(2007));
-    expect(&rt, next_free(&table, bssid_of(0)), Some(1));
+    expect(&rt, next_free(&table, OTHER), Some(1));
     let again = table.snapshot(rt.alloc()).expect(&rt, "memory");
     expect(&rt, again.as_slice(), changes.as_slice());
 }
 
-// At the second BSSID: a station that is associated at the first comes with a number that was given.
-fn points_behind_rows(rt: &impl Abort, alloc: Global, table: &mut Table) {
-    let other = bssid_of(0);
-    let given = cursor_of(rt, other, 1);
-    let moved = put(other, FIRST, associated(rt, 1, 1, 5));
+// At the second BSSID a station that is associated at the first comes with a number that was given. A third
+// BSSID has no policy, and then gets it with its number.
+const POINTS: &[Step] = &[
     // The station is associated elsewhere: nothing is made, and the cursor is not.
-    refuses_all(rt, alloc, table, &[moved, given]);
-    expect(rt, next_free(table, other), Some(1));
-    takes_all(rt, alloc, table, &[authenticated_row(FIRST), moved, given]);
-    expect(rt, next_free(table, other), Some(2));
-}
-
-// A third BSSID has no policy, and then gets it by the same changes.
-fn points_behind_a_policy(rt: &impl Abort, alloc: Global, table: &mut Table) {
-    let third = bssid_of(1);
-    let given = cursor_of(rt, third, 4);
-    refuses_all(rt, alloc, table, &[drop_row(FIRST), given]);
-    expect(rt, table.get(BSSID, FIRST), Some(Station::Authenticated));
-    takes_all(rt, alloc, table, &[open(third), given]);
-    expect(rt, next_free(table, third), Some(5));
-}
+    Step::RefusesAll(&[Ask::Associate(OTHER, FIRST, 1), Ask::Point(OTHER, 1)]),
+    Step::NextFree(OTHER, 1),
+    Step::TakesAll(&[
+        Ask::Authenticate(BSSID, FIRST),
+        Ask::Associate(OTHER, FIRST, 1),
+        Ask::Point(OTHER, 1),
+    ]),
+    Step::NextFree(OTHER, 2),
+    Step::RefusesAll(&[Ask::Drop(FIRST), Ask::Point(THIRD, 4)]),
+    Step::Row(BSSID, FIRST, Some(0)),
+    Step::TakesAll(&[Ask::Open(THIRD), Ask::Point(THIRD, 4)]),
+    Step::NextFree(THIRD, 5),
+];
 
 #[test]
 fn a_cursor_comes_behind_other_changes(rt: HostRuntime) {
-    let mut table = table_with_cursor(&rt, rt.alloc());
-    points_behind_rows(&rt, rt.alloc(), &mut table);
-    points_behind_a_policy(&rt, rt.alloc(), &mut table);
+    let mut table = table_by(&rt, rt.alloc(), WITH_CURSOR);
+    take(&rt, rt.alloc(), &mut table, POINTS);
 }
 
 // A table with another beside it.
@@ -487,7 +464,7 @@ fn changes_are_staged_and_committed(rt: HostRuntime) {
 // Rows 1 and 2 stand at the end, and 5 in the place of what was staged before it; 3 is put before a refusal.
 fn commits_what_was_staged_last(rt: &impl Abort, alloc: Global, tables: &mut Staged) {
     let good = [row(BSSID, 1), row(BSSID, 2)];
-    let bad = [row(BSSID, 3), row(bssid_of(0), 4)];
+    let bad = [row(BSSID, 3), row(OTHER, 4)];
     stages_no(rt, alloc, tables, &bad);
     commits(rt, tables, 3);
     stages(rt, alloc, tables, &good);
@@ -503,11 +480,11 @@ fn commits_what_was_staged_last(rt: &impl Abort, alloc: Global, tables: &mut Sta
 #[test]
 fn changes_are_staged_behind_a_refusal_and_in_the_place_of_others(rt: HostRuntime) {
     let alloc = rt.alloc();
-    let mut tables = stage_table(&rt, alloc, three_rows(&rt, alloc));
+    let mut tables = stage_table(&rt, alloc, table_by(&rt, alloc, THREE_ROWS));
     commits_what_was_staged_last(&rt, alloc, &mut tables);
     let table = tables.into_table();
     expect(&rt, table.rows(), 6);
-    expect(&rt, table.get(BSSID, address(3)), None);
-    let fifth = table.get(BSSID, address(5));
+    expect(&rt, table.get(BSSID, address(1, 3)), None);
+    let fifth = table.get(BSSID, address(1, 5));
     expect(&rt, fifth, Some(Station::Authenticated));
 }

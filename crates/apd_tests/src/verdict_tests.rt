@@ -1,38 +1,15 @@
 //! The largest events, each once: a contract can't say that memory and time are left for them.
 use crate::calls::{
-    address, addresses_of, associated, confs_in_mode, lines_of_addresses, policy_of, table_of,
-    takes,
+    RADIO, address, associated, closed_start, confs_in_mode, frame_of, lines_of_addresses,
+    policy_of, start, table_of, takes,
 };
 use crate::expect::expect;
-use apd_base::{AclMode, Addr, Bssid, Station, Which};
-use apd_conf::Confs;
-use apd_mlme::{Decision, Event, Out, decide};
+use apd_base::{AclMode, Addr, Station, Which};
+use apd_mlme::{Decision, Out};
 use apd_record::{Change, write};
 use apd_table::Table;
 use std::alloc::Global;
 use std::process::Abort;
-
-const RADIO: Bssid = Bssid(Addr([2, 0, 0, 0, 0, 1]));
-
-// What the start of the radio with these list files brings about.
-fn start(
-    rt: &impl Abort,
-    alloc: Global,
-    table: &Table,
-    confs: &Confs,
-    [accept_file, deny_file]: [&[u8]; 2],
-) -> Decision {
-    let accept = addresses_of(rt, alloc, accept_file);
-    let deny = addresses_of(rt, alloc, deny_file);
-    assert!(rt; confs.with_bssid(RADIO).is_some());
-    assert!(rt; table.bss_count() < 8);
-    let event = Event::Configure {
-        bssid: RADIO,
-        accept: accept.as_slice(),
-        deny: deny.as_slice(),
-    };
-    decide(alloc, table, confs, event).expect(rt, "memory")
-}
 
 // How many addresses both lists of the radio have.
 fn list_lengths(table: &Table) -> Option<[usize; 2]> {
@@ -104,10 +81,7 @@ fn deauthentication(station: Addr) -> [u8; 26] {
 
 // Whether an out deauthenticates a station.
 fn is_deauthentication(out: &Out, station: Addr) -> bool {
-    match out {
-        Out::Frame(frame) => frame.as_slice() == deauthentication(station).as_slice(),
-        Out::Install(..) | Out::Remove(_) | Out::Text(..) => false,
-    }
+    frame_of(out) == Some(&deauthentication(station))
 }
 
 // How many of the outs deauthenticate the stations in their order, each once.
@@ -119,12 +93,6 @@ fn count_deauthentications(decision: &Decision) -> u16 {
         }
     }
     next
-}
-
-// What the start of the radio with two empty lists brings about, where it denies whom it doesn't accept.
-fn closed_start(rt: &impl Abort, alloc: Global, table: &Table) -> Decision {
-    let confs = confs_in_mode(rt, alloc, AclMode::DenyUnlessAccepted);
-    start(rt, alloc, table, &confs, [b"", b""])
 }
 
 // A change and an out for each station, and one of each for the radio.
