@@ -1,5 +1,5 @@
-//! Calls whose contracts are long, each by a function of its own, so that the proof of a test needn't carry
-//! them. What a test builds on has to be made: where it isn't, the test ends there.
+//! Calls whose contracts are long, and what several modules do alike, each by a function of its own. What a test
+//! builds on has to be made: where it isn't, the test ends there.
 use crate::expect::expect;
 use apd_base::{AclMode, Addr, Aid, Association, Bssid, Policy, Station, StationNumber};
 use apd_conf::{AddressList, Conf, Confs, InterfaceName, read_list};

@@ -129,7 +129,7 @@ fn the_first_faulty_line_is_told(rt: HostRuntime) {
     expect_faults(&rt, rt.alloc(), &FAULTY);
 }
 
-// A line alone: one that is taken leaves the interface missing.
+// A line alone: one that is taken leaves another name missing.
 fn check_line(rt: &impl Abort, alloc: Global, line: &str, is_taken: bool) {
     let fault = fault_of(alloc, line.as_bytes());
     let is_missing = matches!(&fault, Some(ConfFault::Missing(_)));

@@ -411,7 +411,7 @@ fn stations_are_told(rt: HostRuntime) {
     tells_stations(&rt, rt.alloc(), &STATIONS);
 }
 
-const NOTHING: [(Query, &[u8]); 5] = [
+const EMPTY_TABLE: [(Query, &[u8]); 5] = [
     (Query::First(BSSID), b""),
     (Query::Next(BSSID, A), b"FAIL\n"),
     (Query::Sta(BSSID, A), b"FAIL\n"),
@@ -422,7 +422,7 @@ const NOTHING: [(Query, &[u8]); 5] = [
 #[test]
 fn an_empty_table_tells_nothing(rt: HostRuntime) {
     let table = Table::new(rt.alloc());
-    tells(&rt, rt.alloc(), &table, &NOTHING);
+    tells(&rt, rt.alloc(), &table, &EMPTY_TABLE);
 }
 
 const LISTED: [(Query, &[u8]); 2] = [

@@ -21,7 +21,7 @@ const DEAUTHENTICATION: [u8; 26] = [
 ];
 
 /// Decides the start of the radio with these list files, and makes its changes.
-fn starts(
+fn make_start(
     rt: &impl Abort,
     alloc: Global,
     table: &mut Table,
@@ -52,7 +52,7 @@ fn started(rt: &impl Abort, alloc: Global, open: &Confs) -> Table {
 }
 
 /// Decides a frame of the station, and makes its changes.
-fn hears(
+fn make_heard(
     rt: &impl Abort,
     alloc: Global,
     table: &mut Table,
@@ -72,7 +72,7 @@ fn authenticate(rt: &impl Abort, alloc: Global, table: &mut Table, confs: &Confs
         transaction: 1,
         status: 0,
     };
-    hears(rt, alloc, table, confs, Frame::Auth(request))
+    make_heard(rt, alloc, table, confs, Frame::Auth(request))
 }
 
 /// Decides an association request of the station, and makes its changes.
@@ -83,7 +83,7 @@ fn associate(rt: &impl Abort, alloc: Global, table: &mut Table, confs: &Confs) -
         listen_interval: 10,
         elements: b"\x00\x03net\x01\x04\x82\x84\x8b\x96",
     };
-    hears(rt, alloc, table, confs, Frame::Assoc(request))
+    make_heard(rt, alloc, table, confs, Frame::Assoc(request))
 }
 
 /// The frame of a decision that says no more than one.
@@ -186,7 +186,7 @@ fn expect_taken_over(
     open: &Confs,
     files: [&[u8]; 2],
 ) -> Option<Change> {
-    let began = starts(rt, alloc, table, open, files);
+    let began = make_start(rt, alloc, table, open, files);
     expect(rt, began.changes.as_slice().get(1..), Some(&TAKEN_OVER));
     first(&began.changes)
 }
@@ -199,7 +199,7 @@ fn expect_one_change(
     open: &Confs,
     (files, change): ([&[u8]; 2], Option<Change>),
 ) {
-    let later = starts(rt, alloc, table, open, files);
+    let later = make_start(rt, alloc, table, open, files);
     let changes = &later.changes;
     expect(rt, (changes.len(), first(changes)), (1, change));
 }
@@ -237,9 +237,9 @@ fn the_most_records_of_an_event(rt: HostRuntime) {
 }
 
 /// Others get all identifiers but this one.
-fn others_come(rt: &impl Abort, table: &mut Table, left: u16) {
+fn others_come(rt: &impl Abort, table: &mut Table, but: u16) {
     for number in 1..=2007 {
-        if number != left {
+        if number != but {
             takes(rt, table, &[member(rt, number)]);
         }
     }

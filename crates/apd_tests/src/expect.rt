@@ -1,5 +1,4 @@
-//! An expectation, in a function of its own: a test that calls it needn't carry how values are compared and
-//! printed.
+//! Expectations, each in a function of its own.
 use std::alloc::Global;
 use std::fmt::{Debug, Display};
 use std::process::Abort;

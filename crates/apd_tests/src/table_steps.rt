@@ -34,7 +34,7 @@ pub enum Step {
     /// Changes at once: all are taken, or none.
     TakesAll(&'static [Ask]),
     RefusesAll(&'static [Ask]),
-    /// The identifier of a station, which is 0 where it is authenticated alone.
+    /// The identifier of a station, which is 0 where it is authenticated alone, and none where it has no row.
     Row(Bssid, Addr, Option<u16>),
     /// How many rows there are of all BSSIDs.
     Rows(usize),
@@ -43,7 +43,7 @@ pub enum Step {
 }
 
 /// A station under an identifier, or without one.
-pub fn station_of(rt: &impl Abort, number: u16) -> Station {
+fn station_of(rt: &impl Abort, number: u16) -> Station {
     if number == 0 {
         Station::Authenticated
     } else {
@@ -60,16 +60,26 @@ fn put(rt: &impl Abort, bssid: Bssid, addr: Addr, number: u16) -> Change {
 }
 
 fn change_of(rt: &impl Abort, ask: &Ask) -> Change {
-    let bssid = BSSID;
     match *ask {
         Ask::Open(bssid) => policy_of(bssid, AclMode::AcceptUnlessDenied),
         Ask::Close(bssid) => policy_of(bssid, AclMode::DenyUnlessAccepted),
         Ask::Authenticate(bssid, addr) => put(rt, bssid, addr, 0),
         Ask::Associate(bssid, addr, number) => put(rt, bssid, addr, number),
-        Ask::Drop(addr) => Change::Drop { bssid, addr },
-        Ask::List(which, addr) => Change::ListAdd { bssid, which, addr },
-        Ask::TakeOff(which, addr) => Change::ListDel { bssid, which, addr },
-        Ask::Clear(which) => Change::ListClear { bssid, which },
+        Ask::Drop(addr) => Change::Drop { bssid: BSSID, addr },
+        Ask::List(which, addr) => Change::ListAdd {
+            bssid: BSSID,
+            which,
+            addr,
+        },
+        Ask::TakeOff(which, addr) => Change::ListDel {
+            bssid: BSSID,
+            which,
+            addr,
+        },
+        Ask::Clear(which) => Change::ListClear {
+            bssid: BSSID,
+            which,
+        },
         Ask::Point(bssid, number) => cursor_of(rt, bssid, number),
     }
 }
@@ -128,7 +138,7 @@ fn take_step(rt: &impl Abort, alloc: Global, table: &mut Table, step: &Step) {
 }
 
 /// Takes these steps with a table.
-pub fn take(rt: &impl Abort, alloc: Global, table: &mut Table, steps: &[Step]) {
+pub fn take_steps(rt: &impl Abort, alloc: Global, table: &mut Table, steps: &[Step]) {
     for step in steps {
         take_step(rt, alloc, table, step);
     }
@@ -137,6 +147,6 @@ pub fn take(rt: &impl Abort, alloc: Global, table: &mut Table, steps: &[Step]) {
 /// The table that steps lead to.
 pub fn table_by(rt: &impl Abort, alloc: Global, steps: &[Step]) -> Table {
     let mut table = Table::new(alloc);
-    take(rt, alloc, &mut table, steps);
+    take_steps(rt, alloc, &mut table, steps);
     table
 }

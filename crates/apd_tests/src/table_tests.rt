@@ -4,7 +4,7 @@ use crate::calls::{
     address, apply_all, associated, cursor_of, next_free, policy_of, refuses, takes,
 };
 use crate::expect::{expect, expect_printed};
-use crate::table_steps::{Ask, BSSID, Step, table_by, take};
+use crate::table_steps::{Ask, BSSID, Step, table_by, take_steps};
 use apd_base::{AclMode, Addr, Bssid, Station, Which};
 use apd_record::{Change, read_all, write};
 use apd_table::{Staged, Table, TableFault};
@@ -52,7 +52,7 @@ fn stations_and_policies_are_changed(rt: HostRuntime) {
     expect(&rt, table.policy(BSSID), Some((0, 2007)));
     denies_first(&rt, rt.alloc(), &table);
     let copy = table.copy(rt.alloc()).expect(&rt, "a copy");
-    take(&rt, rt.alloc(), &mut table, FIRST_GOES);
+    take_steps(&rt, rt.alloc(), &mut table, FIRST_GOES);
     expect(&rt, (table.count(BSSID), copy.count(BSSID)), (0, 1));
 }
 
@@ -82,7 +82,7 @@ fn lists_are_changed(rt: HostRuntime) {
     let mut table = table_by(&rt, rt.alloc(), FIRST_IS_LISTED);
     expect(&rt, list_lengths(&table), Some((1, 1)));
     expect(&rt, table.allowed(BSSID, FIRST), true);
-    take(&rt, rt.alloc(), &mut table, LISTS_ARE_CLEARED);
+    take_steps(&rt, rt.alloc(), &mut table, LISTS_ARE_CLEARED);
 }
 
 // The second station is associated, and then the first authenticated.
@@ -93,7 +93,7 @@ const FIRST_FOLLOWS: &[Step] = &[Step::Takes(&[Ask::Authenticate(BSSID, FIRST)])
 fn both_stations(rt: &impl Abort, alloc: Global) -> Table {
     let mut table = table_by(rt, alloc, SECOND_COMES);
     expect(rt, table.least_free(BSSID), Some(2));
-    take(rt, alloc, &mut table, FIRST_FOLLOWS);
+    take_steps(rt, alloc, &mut table, FIRST_FOLLOWS);
     table
 }
 
@@ -265,44 +265,44 @@ fn a_first_start_has_1024_addresses_on_each_list_and_no_more(rt: HostRuntime) {
     expect(&rt, list_lengths(&table), Some((1024, 1024)));
 }
 
-// The stations of some numbers.
-const ZEROTH: Addr = Addr([2, 0, 0, 1, 0, 0]);
+// The stations of these numbers.
+const NUMBER_0: Addr = Addr([2, 0, 0, 1, 0, 0]);
 
-const NEXT: Addr = Addr([2, 0, 0, 1, 0, 1]);
+const NUMBER_1: Addr = Addr([2, 0, 0, 1, 0, 1]);
 
-const LAST: Addr = Addr([2, 0, 0, 1, 0, 2]);
+const NUMBER_2: Addr = Addr([2, 0, 0, 1, 0, 2]);
 
 // Rows of both stations and of number 0, the first of them associated.
 const THREE_ROWS: &[Step] = &[Step::Takes(&[
     Ask::Open(BSSID),
-    Ask::Authenticate(BSSID, ZEROTH),
+    Ask::Authenticate(BSSID, NUMBER_0),
     Ask::Associate(BSSID, FIRST, 1),
     Ask::Authenticate(BSSID, SECOND),
 ])];
 
-// Both stations are dropped behind a change, after drops behind a refusal.
+// No change, then one; drops behind a refusal, of which none is made; and both stations dropped behind a change.
 const DROPS: &[Step] = &[
     Step::TakesAll(&[]),
     Step::Rows(3),
-    Step::TakesAll(&[Ask::Authenticate(BSSID, NEXT)]),
+    Step::TakesAll(&[Ask::Authenticate(BSSID, NUMBER_1)]),
     Step::Rows(4),
     Step::RefusesAll(&[Ask::Close(BSSID), Ask::Drop(FIRST)]),
     Step::Rows(4),
     Step::TakesAll(&[
-        Ask::Authenticate(BSSID, LAST),
+        Ask::Authenticate(BSSID, NUMBER_2),
         Ask::Drop(FIRST),
         Ask::Drop(SECOND),
     ]),
     Step::Rows(3),
     Step::Row(BSSID, FIRST, None),
-    Step::TakesAll(&[Ask::Drop(ZEROTH), Ask::Drop(NEXT)]),
+    Step::TakesAll(&[Ask::Drop(NUMBER_0), Ask::Drop(NUMBER_1)]),
 ];
 
 #[test]
 fn drops_come_behind_no_change_and_behind_one(rt: HostRuntime) {
     let mut table = table_by(&rt, rt.alloc(), THREE_ROWS);
-    take(&rt, rt.alloc(), &mut table, DROPS);
-    let last = (LAST, Station::Authenticated);
+    take_steps(&rt, rt.alloc(), &mut table, DROPS);
+    let last = (NUMBER_2, Station::Authenticated);
     expect(&rt, table.first(BSSID), Some(last));
 }
 
@@ -326,13 +326,14 @@ const FIRST_MOVES: &[Step] = &[
 #[test]
 fn an_association_moves(rt: HostRuntime) {
     let mut table = table_by(&rt, rt.alloc(), THREE_ROWS);
-    take(&rt, rt.alloc(), &mut table, FIRST_MOVES);
+    take_steps(&rt, rt.alloc(), &mut table, FIRST_MOVES);
 }
 
-// Two BSSIDs, of which the second gave no identifier yet, with a list and the rows of stations.
+// Two BSSIDs, of which the second gave no identifier yet, with a list and three rows: the first four asks are
+// those of THREE_ROWS.
 const WITH_CURSOR: &[Step] = &[Step::Takes(&[
     Ask::Open(BSSID),
-    Ask::Authenticate(BSSID, ZEROTH),
+    Ask::Authenticate(BSSID, NUMBER_0),
     Ask::Associate(BSSID, FIRST, 1),
     Ask::Authenticate(BSSID, SECOND),
     Ask::List(Which::Accept, Addr([2, 0, 0, 1, 0, 9])),
@@ -403,7 +404,7 @@ const POINTS: &[Step] = &[
 #[test]
 fn a_cursor_comes_behind_other_changes(rt: HostRuntime) {
     let mut table = table_by(&rt, rt.alloc(), WITH_CURSOR);
-    take(&rt, rt.alloc(), &mut table, POINTS);
+    take_steps(&rt, rt.alloc(), &mut table, POINTS);
 }
 
 // A table with another beside it.
