@@ -1,11 +1,11 @@
 // Requests are accepted while a sync is under way.
 ghost use Rattle.std.specs.Prelude.{◌≡◌};
 
-use crate::common::{Host, Still, blank_disk, commit, flusher, share, started_core};
+use crate::common::{Host, blank_disk, commit, flusher, new_seat, share, started_core};
 use crate::expect::expect;
 use crate::hold::{HoldDisk, Turnstile};
-use crate::operator::{Operator, are};
-use apd_desk::{Seat, Shared, control_worker};
+use crate::operator::{Operator, are, serve_operator};
+use apd_desk::{Seat, Shared};
 use apd_disk::MemDisk;
 use apd_flusher::Flusher;
 use std::alloc::Global;
@@ -31,9 +31,11 @@ fn serve<L: Ledger, W: Wait + Clock + Net>(
     seat: Seat<L>,
     turnstile: &Turnstile,
 ) -> bool {
-    let port = Operator::new(rt, alloc, shared, Some(turnstile), ORDERS);
-    let (_seat, port) = control_worker(rt, alloc, shared, seat, port, &Still, turnstile);
-    are(port.into_replies().as_slice(), REPLIES)
+    let operator = Operator::new(rt, alloc, shared, Some(turnstile), ORDERS);
+    let replies = serve_operator(rt, alloc, shared, seat, operator, turnstile);
+    let expected = are(replies.as_slice(), REPLIES);
+    drop(replies);
+    expected
 }
 
 // Commits and serves at once. Whether both orders are replied to.
@@ -64,7 +66,7 @@ fn replies_meanwhile<L: Ledger + Send + Sync, W: Host>(
     shared: &Shared<L>,
     turnstile: &Turnstile,
 ) -> Option<bool> {
-    let (seat, flusher) = shared.seat(rt).zip(holding_flusher(alloc, turnstile))?;
+    let (seat, flusher) = new_seat(rt, shared).zip(holding_flusher(alloc, turnstile))?;
     turnstile.arm();
     Some(commit_and_serve(rt, alloc, shared, seat, flusher, turnstile))
 }

@@ -68,9 +68,26 @@ impl Asker {
     /// Whether a question is answered, which is asked while workers wait.
     pub(crate) fn gets_answer(&self, clock: &impl Clock, question: &Question<'_>) -> bool {
         rest(clock);
+        self.sends(question) && self.receives_each(question)
+    }
+
+    fn sends(&self, question: &Question<'_>) -> bool {
         let to = (Ipv4Addr::LOCALHOST, question.port);
-        (0..question.times).all(|_time| self.socket.send_to(question.asked, to).is_ok())
-            && (0..question.times).all(|_time| self.receives(question.answer))
+        for _time in 0..question.times {
+            if self.socket.send_to(question.asked, to).is_err() {
+                return false;
+            }
+        }
+        true
+    }
+
+    fn receives_each(&self, question: &Question<'_>) -> bool {
+        for _time in 0..question.times {
+            if !self.receives(question.answer) {
+                return false;
+            }
+        }
+        true
     }
 }
 
@@ -109,10 +126,10 @@ impl Port for Commands {
 
     fn reply(&mut self, _tag: u64, text: &[u8]) -> Result<(), PortFault> {
         match self.sender {
-            Some(sender) => self
-                .datagrams
-                .send(sender, text)
-                .map_err(|_| PortFault::Device),
+            Some(sender) => match self.datagrams.send(sender, text) {
+                Ok(()) => Ok(()),
+                Err(_) => Err(PortFault::Device),
+            },
             None => Ok(()),
         }
     }

@@ -3,7 +3,7 @@ ghost use Rattle.std.specs.Prelude.{◌≡◌};
 
 use crate::common::{
     ASSOCIATION, Host, WLAN0, authentication, commit, commit_all, enters_both, finds_station,
-    memory_flusher, settles_in_memory, share, started_core, submits,
+    memory_flusher, new_seat, settles_in_memory, share, started_core, stop, submits,
 };
 use crate::expect::expect;
 use apd_core::Core;
@@ -26,11 +26,19 @@ fn collect<L: Ledger, W: Wait>(rt: &W, shared: &Shared<L>, seat: &mut Seat<L>) -
 }
 
 fn installs(outs: &[Out]) -> bool {
-    outs.iter().any(|out| matches!(out, Out::Install(_, _)))
+    for out in outs {
+        if let Out::Install(_, _) = out {
+            return true;
+        }
+    }
+    false
 }
 
 fn collects_one<L: Ledger, W: Wait>(rt: &W, shared: &Shared<L>, seat: &mut Seat<L>) -> bool {
-    collect(rt, shared, seat).is_some_and(|outs| installs(outs.as_slice()))
+    match collect(rt, shared, seat) {
+        Some(outs) => installs(outs.as_slice()),
+        None => false,
+    }
 }
 
 // Collects until a station is installed.
@@ -54,7 +62,8 @@ fn associates<L: Ledger, W: Wait>(rt: &W, shared: &Shared<L>, seat: Seat<L>) -> 
     let told = submits_both(rt, shared, &mut seat)
         && collects_install(rt, shared, &mut seat)
         && finds_station(rt, shared, &mut seat);
-    shared.stop(rt);
+    stop(rt, shared);
+    drop(seat);
     told
 }
 
@@ -78,7 +87,7 @@ fn tells_new_seat<L: Ledger + Send + Sync, W: Host>(
     alloc: Global,
     shared: &Shared<L>,
 ) -> Option<bool> {
-    let (seat, flusher) = shared.seat(rt).zip(memory_flusher(alloc))?;
+    let (seat, flusher) = new_seat(rt, shared).zip(memory_flusher(alloc))?;
     Some(commit_and_associate(rt, shared, flusher, seat))
 }
 
@@ -142,7 +151,7 @@ fn outs_of_new_seat<L: Ledger, W: Wait + Clock>(
     alloc: Global,
     shared: &Shared<L>,
 ) -> Option<Vec<Out>> {
-    let mut seat = shared.seat(rt)?;
+    let mut seat = new_seat(rt, shared)?;
     let outs = collect_both(rt, alloc, shared, &mut seat);
     drop(seat);
     outs
@@ -173,7 +182,11 @@ fn is_same(one: &Out, other: &Out) -> bool {
 
 // How many outs these are, if they are the same.
 fn same(one: Option<Vec<Out>>, other: Option<Vec<Out>>) -> Option<usize> {
-    count_same(one.as_deref()?, other.as_deref()?)
+    let (one, other) = one.zip(other)?;
+    let count = count_same(&one, &other);
+    drop(one);
+    drop(other);
+    count
 }
 
 fn count_same(one: &[Out], other: &[Out]) -> Option<usize> {
@@ -181,11 +194,12 @@ fn count_same(one: &[Out], other: &[Out]) -> Option<usize> {
 }
 
 fn are_same(one: &[Out], other: &[Out]) -> bool {
+    for (one, other) in one.iter().zip(other) {
+        if !is_same(one, other) {
+            return false;
+        }
+    }
     one.len() == other.len()
-        && one
-            .iter()
-            .zip(other)
-            .all(|(one, other)| is_same(one, other))
 }
 
 #[test]

@@ -1,7 +1,9 @@
 // What a committer holds when the commits begin, and what waits in it when they end.
 ghost use Rattle.std.specs.Prelude.{◌≡◌};
 
-use crate::common::{asked_core, finds_station, memory_flusher, share, started_core};
+use crate::common::{
+    asked_core, finds_station, memory_flusher, new_seat, share, started_core, stop,
+};
 use crate::expect::expect;
 use apd_core::Core;
 use apd_desk::{NoGate, Shared, commit_all};
@@ -32,7 +34,7 @@ fn work<L: Ledger, W: Wait + Clock, D: Disk>(
 
 // Whether a station is there, as a new seat is told.
 fn tells<L: Ledger, W: Wait>(rt: &W, shared: &Shared<L>) -> Option<bool> {
-    let mut seat = shared.seat(rt)?;
+    let mut seat = new_seat(rt, shared)?;
     let told = finds_station(rt, shared, &mut seat);
     drop(seat);
     Some(told)
@@ -45,7 +47,7 @@ fn tells_once_settled<L: Ledger, W: Wait + Clock>(
     committer: Option<Committer<MemDisk>>,
 ) -> Option<bool> {
     let mut committer = committer?;
-    shared.stop(rt);
+    stop(rt, shared);
     work(rt, shared, &mut committer);
     drop(committer);
     tells(rt, shared)
@@ -87,7 +89,9 @@ fn receipt_waits<D: Disk + Drop>(committer: Committer<D>) -> bool {
     let (flusher, batch, receipt) = committer.into_parts();
     drop(flusher);
     drop(batch);
-    receipt.is_some()
+    let waits = receipt.is_some();
+    drop(receipt);
+    waits
 }
 
 // Whether the receipt of another core's batch waits in the committer when the commits have ended.

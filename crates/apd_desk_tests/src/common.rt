@@ -5,7 +5,10 @@ use apd_base::{Addr, Bssid, Moment};
 use apd_conf::{AddressList, Conf, Confs, InterfaceName};
 use apd_core::{Accepted, Core, Input};
 use apd_ctrl::Query;
-use apd_desk::{Clock, Gate, NoGate, Seat, Shared, flush_worker, radio_worker};
+use apd_desk::{
+    Clock, Gate, NoGate, Port, Seat, Shared, control_worker, flush_worker, radio_worker,
+    tick_worker,
+};
 use apd_disk::{Disk, MemDisk};
 use apd_flusher::Flusher;
 use apd_radio::Radio;
@@ -85,9 +88,14 @@ pub(crate) fn new_core(alloc: Global) -> Option<Core> {
     core_of(alloc, built_in(alloc)?)
 }
 
-/// Whether a request becomes an entry of the core.
+/// Whether a request at a moment becomes an entry of the core.
+pub(crate) fn enters_at(core: &mut Core, input: Input<'_>, moment: Moment) -> bool {
+    matches!(core.accept(input, moment), Ok(Accepted::Entry(_)))
+}
+
+/// The same at the first moment.
 pub(crate) fn enters(core: &mut Core, input: Input<'_>) -> bool {
-    matches!(core.accept(input, Moment(0)), Ok(Accepted::Entry(_)))
+    enters_at(core, input, Moment(0))
 }
 
 /// Whether the start of an interface becomes an entry.
@@ -118,10 +126,10 @@ fn wlan1(alloc: Global) -> Option<Conf> {
     Some(conf)
 }
 
-// Adds a configuration, where there is one.
-fn adds(list: &mut Vec<Conf>, conf: Option<Conf>) -> bool {
-    match conf {
-        Some(conf) => list.push(conf).is_ok(),
+/// Adds one to a list, where there is one.
+pub(crate) fn adds<X: Drop>(list: &mut Vec<X>, one: Option<X>) -> bool {
+    match one {
+        Some(one) => list.push(one).is_ok(),
         None => false,
     }
 }
@@ -164,7 +172,12 @@ fn loads<D: Disk>(core: &mut Core, flusher: &mut Flusher<D>) -> bool {
 
 // The turns of a batch without a switch.
 fn turns<D: Disk>(flusher: &mut Flusher<D>) -> bool {
-    (0..4).all(|_turn| flusher.turn().is_ok())
+    for _turn in 0..4 {
+        if flusher.turn().is_err() {
+            return false;
+        }
+    }
+    true
 }
 
 fn publishes<D: Disk>(core: &mut Core, flusher: &mut Flusher<D>) -> bool {
@@ -222,6 +235,37 @@ pub(crate) fn share<L: Ledger>(core: Option<Core>, blank: Blank) -> Option<Share
     Some(Shared::new(core?, blank))
 }
 
+/// A new seat, of which nothing is said: the clauses of a shared core are long, and no test needs them.
+pub(crate) fn new_seat<L: Ledger, W: Wait>(rt: &W, shared: &Shared<L>) -> Option<Seat<L>> {
+    shared.seat(rt)
+}
+
+/// Tells all to stop, and says nothing of the shared core then.
+pub(crate) fn stop<L: Ledger, W: Wait>(rt: &W, shared: &Shared<L>) {
+    shared.stop(rt);
+}
+
+/// Closes a shared core with all its seats. The core, and how many entries there were.
+pub(crate) fn close<L: Ledger>(shared: Shared<L>, seats: Vec<Seat<L>>) -> Option<(Core, u64)>
+    requires { L.parts ≡ 65536 }
+{
+    shared.close(seats).ok()
+}
+
+/// Whether a request at a moment becomes an entry by a seat.
+pub(crate) fn submits_at<L: Ledger, W: Wait>(
+    rt: &W,
+    shared: &Shared<L>,
+    seat: &mut Seat<L>,
+    input: Input<'_>,
+    moment: Moment,
+) -> bool {
+    matches!(
+        shared.submit(rt, seat, input, moment),
+        Ok(Accepted::Entry(_))
+    )
+}
+
 /// Whether a frame becomes an entry by a seat.
 pub(crate) fn submits<L: Ledger, W: Wait>(
     rt: &W,
@@ -229,8 +273,7 @@ pub(crate) fn submits<L: Ledger, W: Wait>(
     seat: &mut Seat<L>,
     frame: &[u8],
 ) -> bool {
-    let answer = shared.submit(rt, seat, Input::Received(WLAN0, frame), Moment(0));
-    matches!(answer, Ok(Accepted::Entry(_)))
+    submits_at(rt, shared, seat, Input::Received(WLAN0, frame), Moment(0))
 }
 
 /// Whether that station is there, as a seat is told.
@@ -269,18 +312,65 @@ pub(crate) fn serve_radio<L: Ledger, W: Wait + time::Clock + Net, R: Radio, C: C
     radio_worker(rt, alloc, shared, seat, slot, clock, spares, gate)
 }
 
+/// Serves a radio that has no spare until a stop. Gives the seat back.
+pub(crate) fn serve_alone<L: Ledger, W: Wait + time::Clock + Net, R: Radio, C: Clock, G: Gate>(
+    rt: &W,
+    alloc: Global,
+    shared: &Shared<L>,
+    seat: Seat<L>,
+    radio: R,
+    clock: &C,
+    gate: &G,
+) -> Seat<L> {
+    let slot = Slot::new(alloc, radio, WLAN0);
+    let (seat, slot) = serve_radio(rt, alloc, shared, seat, slot, clock, Vec::new(alloc), gate);
+    drop(slot);
+    seat
+}
+
+/// Serves a control port until a stop, and says nothing of its replies then.
+pub(crate) fn serve_port<L: Ledger, W: Wait + time::Clock + Net, P: Port, G: Gate>(
+    rt: &W,
+    alloc: Global,
+    shared: &Shared<L>,
+    seat: Seat<L>,
+    port: P,
+    gate: &G,
+) -> (Seat<L>, P) {
+    control_worker(rt, alloc, shared, seat, port, &Still, gate)
+}
+
+/// Submits no tick until a stop, since its clock stands still. Gives its seat.
+pub(crate) fn serve_ticks<L: Ledger, W: Wait + time::Clock>(
+    rt: &W,
+    shared: &Shared<L>,
+) -> Option<Seat<L>> {
+    let seat = new_seat(rt, shared)?;
+    Some(tick_worker(rt, shared, seat, &Still, &NoGate))
+}
+
+/// Commits into a new store in memory until a stop. Whether there was a flusher.
+pub(crate) fn commit_in_memory<L: Ledger, W: Wait + time::Clock, G: Gate>(
+    rt: &W,
+    alloc: Global,
+    shared: &Shared<L>,
+    gate: &G,
+) -> bool {
+    match memory_flusher(alloc) {
+        Some(flusher) => {
+            commit(rt, shared, flusher, gate);
+            true
+        }
+        None => false,
+    }
+}
+
 /// Tells all to stop, and commits what is not settled. Whether there was a flusher.
 pub(crate) fn commit_all<L: Ledger, W: Wait + time::Clock>(
     rt: &W,
     alloc: Global,
     shared: &Shared<L>,
 ) -> bool {
-    shared.stop(rt);
-    match memory_flusher(alloc) {
-        Some(flusher) => {
-            commit(rt, shared, flusher, &NoGate);
-            true
-        }
-        None => false,
-    }
+    stop(rt, shared);
+    commit_in_memory(rt, alloc, shared, &NoGate)
 }

@@ -2,7 +2,8 @@
 ghost use Rattle.std.specs.Prelude.{◌≡◌};
 
 use crate::common::{
-    WLAN0, WLAN1, authentication, core_of_two_radios, enters, new_core, settle, share, started_core,
+    WLAN0, WLAN1, authentication, core_of_two_radios, enters, new_core, new_seat, settle, share,
+    started_core,
 };
 use crate::expect::expect;
 use crate::operator::{are, replies_to};
@@ -25,9 +26,11 @@ fn serve<'a, L: Ledger, W: Wait + Clock + Net>(
     commands: &'a [&'a [u8]],
     texts: &[&[u8]],
 ) -> Option<bool> {
-    let seat = shared.seat(rt)?;
+    let seat = new_seat(rt, shared)?;
     let replies = replies_to(rt, alloc, shared, seat, commands);
-    Some(are(replies.as_slice(), texts))
+    let expected = are(replies.as_slice(), texts);
+    drop(replies);
+    Some(expected)
 }
 
 // Whether these are the replies to these commands on a core.

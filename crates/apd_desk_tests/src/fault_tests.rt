@@ -2,18 +2,16 @@
 ghost use Rattle.std.specs.Prelude.{◌≡◌};
 
 use crate::common::{
-    Host, Still, WLAN0, authentication, blank_disk, flusher, serve_radio, share, started_core,
+    Host, Still, WLAN0, authentication, blank_disk, close, commit, flusher, new_seat, serve_alone,
+    serve_port, serve_ticks, share, started_core, stop,
 };
 use crate::expect::expect;
 use apd_base::Moment;
 use apd_core::{Accepted, Input};
-use apd_desk::{
-    Gate, NoGate, Place, Port, PortFault, Seat, Shared, control_worker, flush_worker, tick_worker,
-};
+use apd_desk::{Gate, NoGate, Place, Port, PortFault, Seat, Shared, flush_worker};
 use apd_disk::{Disk, FuseDisk, MemDisk};
 use apd_flusher::{Flusher, Phase};
 use apd_radio::Sim;
-use apd_slot::Slot;
 use std::alloc::Global;
 use std::marker::Brand;
 use std::net::Net;
@@ -67,12 +65,12 @@ fn commit_to_the_fault<L: Ledger, W: Wait + Clock, D: Disk + Drop>(
 ) -> Option<Seat<L>> {
     let has_failed = commit_until_failed(rt, shared, flusher);
     let seat = stopped_seat(rt, shared);
-    shared.stop(rt);
-    if has_failed { seat } else { None }
+    stop(rt, shared);
+    has_failed.then_some(seat?)
 }
 
 fn stopped_seat<L: Ledger, W: Wait>(rt: &W, shared: &Shared<L>) -> Option<Seat<L>> {
-    let mut seat = shared.seat(rt)?;
+    let mut seat = new_seat(rt, shared)?;
     finds_stopped(rt, shared, &mut seat).then_some(seat)
 }
 
@@ -81,12 +79,8 @@ fn serve_sim<L: Ledger, W: Wait + Clock + Net>(
     alloc: Global,
     shared: &Shared<L>,
 ) -> Option<Seat<L>> {
-    let seat = shared.seat(rt)?;
-    let slot = Slot::new(alloc, Sim::new(alloc), WLAN0);
-    let none = Vec::new(alloc);
-    let (seat, slot) = serve_radio(rt, alloc, shared, seat, slot, &Still, none, &NoGate);
-    drop(slot);
-    Some(seat)
+    let seat = new_seat(rt, shared)?;
+    Some(serve_alone(rt, alloc, shared, seat, Sim::new(alloc), &Still, &NoGate))
 }
 
 fn serve_commands<L: Ledger, W: Wait + Clock + Net>(
@@ -94,14 +88,10 @@ fn serve_commands<L: Ledger, W: Wait + Clock + Net>(
     alloc: Global,
     shared: &Shared<L>,
 ) -> Option<Seat<L>> {
-    let seat = shared.seat(rt)?;
-    let (seat, _port) = control_worker(rt, alloc, shared, seat, Silent, &Still, &NoGate);
+    let seat = new_seat(rt, shared)?;
+    let (seat, port) = serve_port(rt, alloc, shared, seat, Silent, &NoGate);
+    drop(port);
     Some(seat)
-}
-
-fn serve_ticks<L: Ledger, W: Wait + Clock>(rt: &W, shared: &Shared<L>) -> Option<Seat<L>> {
-    let seat = shared.seat(rt)?;
-    Some(tick_worker(rt, shared, seat, &Still, &NoGate))
 }
 
 // Both in one list.
@@ -185,16 +175,14 @@ fn close_and_count<L: Ledger>(
 {
     let (shared, seats) = Some(shared).zip(seats)?;
     let back = seats.len();
-    let (core, number) = shared.close(seats).ok()?;
+    let (core, number) = close(shared, seats)?;
     drop(core);
     Some((back, number))
 }
 
 fn failing_flusher(alloc: Global, calls: u64) -> Option<Flusher<FuseDisk<MemDisk>>> {
-    flusher(
-        alloc,
-        FuseDisk::new(blank_disk(alloc)?, FORMAT.saturating_add(calls)),
-    )
+    let disk = FuseDisk::new(blank_disk(alloc)?, FORMAT.saturating_add(calls));
+    flusher(alloc, disk)
 }
 
 #[test]
@@ -242,8 +230,7 @@ fn stops_at_the_gate<L: Ledger, W: Wait + Clock>(
         shared,
         stopped: AtomicU64::new(0),
     };
-    let flusher = flush_worker(rt, shared, failing_flusher(alloc, 0)?, &gate);
-    drop(flusher);
+    commit(rt, shared, failing_flusher(alloc, 0)?, &gate);
     Some(gate.stopped.load(Ordering::SeqCst))
 }
 

@@ -1,9 +1,6 @@
 //! A radio that receives its frames one after another, each once its test has come so far.
-ghost use Rattle.apd_radio.specs.Model.{inside};
-
 use crate::common::{ASSOCIATION, authentication};
-use apd_base::Addr;
-use apd_radio::{Radio, RadioFault};
+use crate::habit::{Given, Habit};
 use std::alloc::{AllocError, Global};
 use std::sync::atomic::{AtomicUsize, Ordering};
 
@@ -32,6 +29,14 @@ impl Stage {
         self.told.fetch_add(1, Ordering::SeqCst);
     }
 
+    // Counts a frame that is to be sent.
+    fn count(&self, frame: &[u8]) {
+        self.sent.fetch_add(1, Ordering::SeqCst);
+        if frame.first() == Some(&ASSOCIATION_RESPONSE) {
+            self.associations.fetch_add(1, Ordering::SeqCst);
+        }
+    }
+
     pub(crate) fn downs(&self) -> usize {
         self.downs.load(Ordering::SeqCst)
     }
@@ -46,7 +51,6 @@ impl Stage {
 }
 
 /// What a frame asks for.
-#[derive(Clone, Copy)]
 pub(crate) enum Asks {
     Authentication,
     Association,
@@ -55,7 +59,6 @@ pub(crate) enum Asks {
 }
 
 /// When a frame is received.
-#[derive(Clone, Copy)]
 pub(crate) enum When {
     AtOnce,
     /// Once the radio was taken down four times: when its slot was made, and at three tries.
@@ -65,7 +68,6 @@ pub(crate) enum When {
 }
 
 /// What a frame asks for, the last byte of its station's address, and when it is received.
-#[derive(Clone, Copy)]
 pub(crate) struct Frame(pub(crate) Asks, pub(crate) u8, pub(crate) When);
 
 /// The frame by which the station that ends by 0xaa leaves, with reason 3 (9.4.1.7).
@@ -87,29 +89,38 @@ impl Frame {
 
     // The frame to the BSSID that ends by this byte.
     fn bytes(&self, alloc: Global, bssid: u8) -> Result<Vec<u8>, AllocError> {
-        let mut bytes = match self.0 {
-            Asks::Authentication => Vec::from_slice(alloc, &authentication(self.1)),
-            Asks::Association => Vec::from_slice(alloc, &ASSOCIATION),
-            Asks::Leave => Vec::from_slice(alloc, &DEAUTHENTICATION),
-        }?;
-        self.address(&mut bytes, bssid);
-        Ok(bytes)
-    }
-
-    fn address(&self, bytes: &mut [u8], bssid: u8) {
-        for (at, byte) in [(9, bssid), (15, self.1), (21, bssid)] {
-            if let Some(place) = bytes.get_mut(at) {
-                *place = byte;
-            }
+        match self.0 {
+            Asks::Authentication => addressed(alloc, &authentication(self.1), self.1, bssid),
+            Asks::Association => addressed(alloc, &ASSOCIATION, self.1, bssid),
+            Asks::Leave => addressed(alloc, &DEAUTHENTICATION, self.1, bssid),
         }
     }
 }
 
-/// The radio inside, which receives these frames at the BSSID that ends by this byte.
+// That frame of a station to a BSSID, by the last bytes of both.
+fn addressed(alloc: Global, frame: &[u8], station: u8, bssid: u8) -> Result<Vec<u8>, AllocError> {
+    let mut bytes = Vec::from_slice(alloc, frame)?;
+    address(&mut bytes, station, bssid);
+    Ok(bytes)
+}
+
+fn address(bytes: &mut [u8], station: u8, bssid: u8) {
+    put(bytes, 9, bssid);
+    put(bytes, 15, station);
+    put(bytes, 21, bssid);
+}
+
+// Puts a byte at a place of a frame.
+fn put(bytes: &mut [u8], at: usize, byte: u8) {
+    if let Some(place) = bytes.get_mut(at) {
+        *place = byte;
+    }
+}
+
+/// A radio that receives these frames at the BSSID that ends by this byte.
 #[derive(Drop)]
-pub(crate) struct Fed<'a, R: Radio> {
+pub(crate) struct Fed<'a> {
     alloc: Global,
-    inner: R,
     bssid: u8,
     stage: &'a Stage,
     frames: &'static [Frame],
@@ -118,17 +129,15 @@ pub(crate) struct Fed<'a, R: Radio> {
     rested: bool,
 }
 
-impl<'a, R: Radio> Fed<'a, R> {
+impl<'a> Fed<'a> {
     pub(crate) fn new(
         alloc: Global,
-        inner: R,
         bssid: u8,
         stage: &'a Stage,
         frames: &'static [Frame],
-    ) -> Fed<'a, R> {
+    ) -> Fed<'a> {
         Fed {
             alloc,
-            inner,
             bssid,
             stage,
             frames,
@@ -136,12 +145,8 @@ impl<'a, R: Radio> Fed<'a, R> {
             rested: true,
         }
     }
-}
 
-impl<R: Radio> Radio for Fed<'_, R> {
-    ghost model = { inside R.model (λ radio. radio.inner) };
-
-    fn poll(&mut self) -> Result<Option<Vec<u8>>, RadioFault> {
+    fn next(&mut self) -> Given {
         let Some(frame) = self.frames.get(self.given) else {
             return Ok(None);
         };
@@ -154,33 +159,20 @@ impl<R: Radio> Radio for Fed<'_, R> {
         self.rested = false;
         Ok(Some(bytes))
     }
+}
 
-    fn install(&mut self, addr: Addr, aid: u16) -> Result<(), RadioFault> {
-        self.inner.install(addr, aid)
+impl Habit for Fed<'_> {
+    fn give(&mut self) -> Option<Given> {
+        Some(self.next())
     }
 
-    fn remove(&mut self, addr: Addr) -> Result<(), RadioFault> {
-        self.inner.remove(addr)
-    }
-
-    fn transmit(&mut self, frame: &[u8]) -> Result<(), RadioFault> {
-        self.stage.sent.fetch_add(1, Ordering::SeqCst);
-        if frame.first() == Some(&ASSOCIATION_RESPONSE) {
-            self.stage.associations.fetch_add(1, Ordering::SeqCst);
-        }
-        self.inner.transmit(frame)
+    // It refuses none, and counts each.
+    fn refuses(&mut self, frame: &[u8]) -> bool {
+        self.stage.count(frame);
+        false
     }
 
     fn take_down(&mut self) {
         self.stage.downs.fetch_add(1, Ordering::SeqCst);
-        self.inner.take_down();
-    }
-
-    fn installed(&self, addr: Addr) -> Option<u16> {
-        self.inner.installed(addr)
-    }
-
-    fn failures(&self) -> u64 {
-        self.inner.failures()
     }
 }

@@ -22,6 +22,8 @@ mod fed;
 #[cfg(test)]
 mod flaky;
 #[cfg(test)]
+mod habit;
+#[cfg(test)]
 mod hold;
 #[cfg(test)]
 mod memory_tests;

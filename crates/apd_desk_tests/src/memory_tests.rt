@@ -1,7 +1,7 @@
 // A commit that is refused memory. Where memory is ample nothing is refused; by hand each allocation is refused in turn.
 ghost use Rattle.std.specs.Prelude.{◌≡◌};
 
-use crate::common::{asked_core, commit, finds_station, memory_flusher, share};
+use crate::common::{asked_core, commit, finds_station, memory_flusher, new_seat, share, stop};
 use crate::expect::expect;
 use apd_core::Core;
 use apd_desk::{NoGate, Seat, Shared};
@@ -38,7 +38,7 @@ fn finds_station_at_last<L: Ledger, W: Wait>(
 
 // Whether the station is there, as a new seat is told.
 fn tells<L: Ledger, W: Wait>(rt: &W, shared: &Shared<L>) -> Option<bool> {
-    let mut seat = shared.seat(rt)?;
+    let mut seat = new_seat(rt, shared)?;
     let told = finds_station_at_last(rt, shared, &mut seat);
     drop(seat);
     Some(told)
@@ -46,7 +46,7 @@ fn tells<L: Ledger, W: Wait>(rt: &W, shared: &Shared<L>) -> Option<bool> {
 
 // Whether the station is there after the commit.
 fn commits<L: Ledger, W: Wait + Clock>(rt: &W, alloc: Global, shared: &Shared<L>) -> Option<bool> {
-    shared.stop(rt);
+    stop(rt, shared);
     commit(rt, shared, new_flusher(alloc)?, &NoGate);
     tells(rt, shared)
 }

@@ -1,7 +1,7 @@
 //! A control port by which a test asks.
-use crate::common::Still;
+use crate::common::{serve_port, stop};
 use crate::hold::Turnstile;
-use apd_desk::{NoGate, Port, PortFault, Seat, Shared, control_worker};
+use apd_desk::{Gate, NoGate, Port, PortFault, Seat, Shared};
 use std::alloc::{AllocError, Global};
 use std::net::Net;
 use std::sync::Wait;
@@ -74,22 +74,42 @@ impl<L: Ledger, W: Wait> Port for Operator<'_, L, W> {
     fn poll(&mut self) -> Result<Option<(u64, Vec<u8>)>, PortFault> {
         self.polls = self.polls.saturating_add(1);
         if self.is_done() {
-            self.shared.stop(self.rt);
+            stop(self.rt, self.shared);
             return Ok(None);
         }
         if !self.may_begin() {
             return Ok(None);
         }
         let tag = self.given as u64;
-        Ok(self.next().map(|bytes| (tag, bytes)))
+        match self.next() {
+            Some(bytes) => Ok(Some((tag, bytes))),
+            None => Ok(None),
+        }
     }
 
     fn reply(&mut self, _tag: u64, text: &[u8]) -> Result<(), PortFault> {
         let Ok(text) = Vec::from_slice(self.alloc, text) else {
             return Err(PortFault::Device);
         };
-        self.replies.push(text).map_err(|_| PortFault::Device)
+        match self.replies.push(text) {
+            Ok(()) => Ok(()),
+            Err(_) => Err(PortFault::Device),
+        }
     }
+}
+
+/// Gives an operator's commands to the worker of the control port. The replies.
+pub(crate) fn serve_operator<L: Ledger, W: Wait + Clock + Net, G: Gate>(
+    rt: &W,
+    alloc: Global,
+    shared: &Shared<L>,
+    seat: Seat<L>,
+    operator: Operator<'_, L, W>,
+    gate: &G,
+) -> Vec<Vec<u8>> {
+    let (seat, operator) = serve_port(rt, alloc, shared, seat, operator, gate);
+    drop(seat);
+    operator.into_replies()
 }
 
 /// Gives the commands one after another to the worker of the control port, and tells all to stop. The replies.
@@ -100,16 +120,26 @@ pub(crate) fn replies_to<'a, L: Ledger, W: Wait + Clock + Net>(
     seat: Seat<L>,
     commands: &'a [&'a [u8]],
 ) -> Vec<Vec<u8>> {
-    let port = Operator::new(rt, alloc, shared, None, commands);
-    let (_seat, port) = control_worker(rt, alloc, shared, seat, port, &Still, &NoGate);
-    port.into_replies()
+    let operator = Operator::new(rt, alloc, shared, None, commands);
+    serve_operator(rt, alloc, shared, seat, operator, &NoGate)
 }
 
 /// Whether these are the replies.
 pub(crate) fn are(replies: &[Vec<u8>], texts: &[&[u8]]) -> bool {
+    for (reply, text) in replies.iter().zip(texts) {
+        if reply.as_slice() != *text {
+            return false;
+        }
+    }
     replies.len() == texts.len()
-        && replies
-            .iter()
-            .zip(texts)
-            .all(|(reply, text)| reply.as_slice() == *text)
+}
+
+/// Whether these are the beginnings of the replies.
+pub(crate) fn begin(replies: &[Vec<u8>], texts: &[&[u8]]) -> bool {
+    for (reply, text) in replies.iter().zip(texts) {
+        if !reply.as_slice().starts_with(text) {
+            return false;
+        }
+    }
+    replies.len() == texts.len()
 }

@@ -2,17 +2,17 @@
 ghost use Rattle.std.specs.Prelude.{◌≡◌};
 
 use crate::common::{
-    ASSOCIATION, Still, WLAN0, associated_core, authentication, commit, memory_flusher,
-    serve_radio, settle, share, started_core,
+    ASSOCIATION, Still, WLAN0, associated_core, authentication, commit_in_memory, new_seat,
+    serve_alone, settle, share, started_core, submits_at,
 };
 use crate::expect::expect;
+use crate::habit::Habitual;
 use crate::staged::{At, Log, Short, Staged};
 use apd_base::Moment;
-use apd_core::{Accepted, Core, Input};
+use apd_core::{Core, Input};
 use apd_desk::{Clock, Gate, NoGate, Seat, Shared};
 use apd_mlme::{Out, Recipient};
 use apd_radio::{Failing, Radio, Recording, Sim};
-use apd_slot::Slot;
 use std::alloc::Global;
 use std::marker::Brand;
 use std::net::Net;
@@ -30,25 +30,9 @@ fn serve<L: Ledger, W: Wait + time::Clock + Net, R: Radio, C: Clock, G: Gate>(
     clock: &C,
     gate: &G,
 ) -> Option<Seat<L>> {
-    let (seat, inner) = shared.seat(rt).zip(Some(inner))?;
-    let radio = Staged::new(rt, alloc, shared, inner, frames);
-    Some(serve_staged(rt, alloc, shared, seat, radio, clock, gate))
-}
-
-// Serves such a radio. Gives the seat back.
-fn serve_staged<L: Ledger, W: Wait + time::Clock + Net, R: Radio, C: Clock, G: Gate>(
-    rt: &W,
-    alloc: Global,
-    shared: &Shared<L>,
-    seat: Seat<L>,
-    radio: R,
-    clock: &C,
-    gate: &G,
-) -> Seat<L> {
-    let slot = Slot::new(alloc, radio, WLAN0);
-    let (seat, slot) = serve_radio(rt, alloc, shared, seat, slot, clock, Vec::new(alloc), gate);
-    drop(slot);
-    seat
+    let (seat, inner) = new_seat(rt, shared).zip(Some(inner))?;
+    let radio = Habitual::new(inner, Staged::new(rt, alloc, shared, frames));
+    Some(serve_alone(rt, alloc, shared, seat, radio, clock, gate))
 }
 
 // What a radio is told that meets want of memory so many times, at the first of the outs that wait. All are told to stop
@@ -78,7 +62,7 @@ fn writes_log<L: Ledger, W: Wait + time::Clock + Net>(
     written: &mut Vec<u8>,
 ) -> bool {
     let inner = Recording::new(alloc, Sim::new(alloc), written);
-    let radio = Short { inner, times };
+    let radio = Habitual::new(inner, Short { times });
     serve(rt, alloc, shared, radio, &[], &Still, &NoGate).is_some()
 }
 
@@ -94,9 +78,9 @@ down
 // 260 times in a row are more than a worker looks again before it waits.
 #[test]
 fn no_out_is_lost_at_want_of_memory_or_at_a_stop(rt: HostRuntime) {
-    for times in [0, 1, 260] {
-        let told = radio_log::<Brand, _>(&rt, rt.alloc(), Blank::new(65_536), times);
-        expect(&rt, (times, told.as_deref()), (times, Some(all_lines())));
+    for times in [0, 1, 260].as_slice() {
+        let told = radio_log::<Brand, _>(&rt, rt.alloc(), Blank::new(65_536), *times);
+        expect(&rt, (*times, told.as_deref()), (*times, Some(all_lines())));
     }
 }
 
@@ -107,8 +91,7 @@ fn lets_go<L: Ledger, W: Wait>(
     seat: &mut Seat<L>,
     moment: u64,
 ) -> bool {
-    let answer = shared.submit(rt, seat, Input::Tick, Moment(moment));
-    matches!(answer, Ok(Accepted::Entry(_)))
+    submits_at(rt, shared, seat, Input::Tick, Moment(moment))
 }
 
 // Whether a station that was heard at 200 s is let go at 400 s, and at 500 s.
@@ -135,7 +118,9 @@ fn departures_at<L: Ledger, W: Wait + time::Clock + Net>(
     let frame = authentication(0xaa);
     let radio = Sim::new(alloc);
     let mut seat = serve(rt, alloc, shared, radio, &[&frame], &At(200_000), &NoGate)?;
-    Some(departures_by(rt, shared, &mut seat))
+    let gone = departures_by(rt, shared, &mut seat);
+    drop(seat);
+    Some(gone)
 }
 
 fn departures_by<L: Ledger, W: Wait>(rt: &W, shared: &Shared<L>, seat: &mut Seat<L>) -> [bool; 2] {
@@ -159,7 +144,8 @@ fn noted_up_when_served<L: Ledger, W: Wait + time::Clock + Net>(
     calls: u64,
 ) -> Option<bool> {
     let radio = Failing::new(Sim::new(alloc), calls);
-    serve(rt, alloc, shared, radio, &[], &Still, &NoGate)?;
+    let seat = serve(rt, alloc, shared, radio, &[], &Still, &NoGate)?;
+    drop(seat);
     Some(shared.is_noted_up(rt, WLAN0))
 }
 
@@ -190,22 +176,20 @@ fn up_when_served<L: Ledger, W: Wait + time::Clock + Net>(
     up
 }
 
+// Whether a station is to be installed, how many calls a radio passes, and whether it is up then.
+const UPS: &[(bool, u64, bool)] = &[
+    (false, 0, true),
+    (true, 0, false),
+    (true, 1, false),
+    (true, 2, true),
+];
+
 #[test]
 fn whether_a_radio_is_up_is_noted(rt: HostRuntime) {
-    for (installs, calls, up) in [
-        (false, 0, true),
-        (true, 0, false),
-        (true, 1, false),
-        (true, 2, true),
-    ] {
-        let is_up = up_when_served::<Brand, _>(
-            &rt,
-            rt.alloc(),
-            Blank::new(65_536),
-            installs,
-            calls,
-        );
-        expect(&rt, (calls, is_up), (calls, Some(up)));
+    for (installs, calls, up) in UPS {
+        let blank = Blank::new(65_536);
+        let is_up = up_when_served::<Brand, _>(&rt, rt.alloc(), blank, *installs, *calls);
+        expect(&rt, (*calls, is_up), (*calls, Some(*up)));
     }
 }
 
@@ -236,26 +220,15 @@ fn receives_both<L: Ledger, W: Wait + time::Clock + Net>(
     serve(rt, alloc, shared, Sim::new(alloc), &frames, &Still, log).is_some()
 }
 
-// Whether both frames are received and committed.
-fn commits_both<L: Ledger, W: Wait + time::Clock + Net>(
-    rt: &W,
-    alloc: Global,
-    shared: &Shared<L>,
-    log: &Log,
-) -> Option<()> {
-    receives_both(rt, alloc, shared, log).then_some(())?;
-    commit(rt, shared, memory_flusher(alloc)?, log);
-    Some(())
-}
-
 fn log_both<L: Ledger, W: Wait + time::Clock + Net>(
     rt: &W,
     alloc: Global,
     shared: &Shared<L>,
 ) -> Option<u64> {
     let log = Log::new();
-    commits_both(rt, alloc, shared, &log)?;
-    Some(log.digits())
+    let commits = receives_both(rt, alloc, shared, &log)
+        && commit_in_memory(rt, alloc, shared, &log);
+    commits.then_some(log.digits())
 }
 
 // The entries 2 and 3, and the four turns of a commit.
@@ -282,6 +255,18 @@ fn is_probe_answer(outs: &[Out]) -> bool {
     }
 }
 
+// Whether that answer is handed out.
+fn collects_probe_answer<L: Ledger, W: Wait>(
+    rt: &W,
+    shared: &Shared<L>,
+    seat: &mut Seat<L>,
+) -> bool {
+    match shared.collect(rt, seat, Recipient::Radio(WLAN0)) {
+        Ok(outs) => is_probe_answer(&outs),
+        Err(_) => false,
+    }
+}
+
 // Whether the answer to that frame is handed out once it is committed.
 fn commits_probe<L: Ledger, W: Wait + time::Clock + Net>(
     rt: &W,
@@ -289,11 +274,11 @@ fn commits_probe<L: Ledger, W: Wait + time::Clock + Net>(
     shared: &Shared<L>,
     log: &Log,
 ) -> Option<bool> {
-    let flusher = memory_flusher(alloc)?;
     let mut seat = serve(rt, alloc, shared, Sim::new(alloc), &[&PROBE], &Still, log)?;
-    commit(rt, shared, flusher, log);
-    let outs = shared.collect(rt, &mut seat, Recipient::Radio(WLAN0)).ok()?;
-    Some(is_probe_answer(&outs))
+    let answered = commit_in_memory(rt, alloc, shared, log)
+        && collects_probe_answer(rt, shared, &mut seat);
+    drop(seat);
+    Some(answered)
 }
 
 // The same, and what passed the gate.

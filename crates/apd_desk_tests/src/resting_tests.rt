@@ -1,14 +1,12 @@
 // What rests between two tries of a radio whose driver fails, told by looks at the clock: who rests looks at it.
 ghost use Rattle.std.specs.Prelude.{◌≡◌};
-ghost use Rattle.apd_radio.specs.Model.{inside};
 
-use crate::common::{Still, WLAN0, associated_core, serve_radio, share};
+use crate::common::{Still, associated_core, new_seat, serve_alone, share};
 use crate::expect::expect;
+use crate::habit::{Habit, Habitual};
 use crate::staged::Staged;
-use apd_base::Addr;
 use apd_desk::{NoGate, Shared};
-use apd_radio::{Failing, Radio, RadioFault, Sim};
-use apd_slot::Slot;
+use apd_radio::{Failing, Sim};
 use std::alloc::Global;
 use std::io;
 use std::marker::Brand;
@@ -101,43 +99,15 @@ impl<R: Net> Net for Counting<'_, R> {
     }
 }
 
-/// The radio inside, which tells when it is taken down.
+/// A radio that tells when it is taken down.
 #[derive(Drop)]
-struct Telling<'a, R: Radio> {
-    inner: R,
+struct Telling<'a> {
     looks: &'a Looks,
 }
 
-impl<R: Radio> Radio for Telling<'_, R> {
-    ghost model = { inside R.model (λ radio. radio.inner) };
-
-    fn poll(&mut self) -> Result<Option<Vec<u8>>, RadioFault> {
-        self.inner.poll()
-    }
-
-    fn install(&mut self, addr: Addr, aid: u16) -> Result<(), RadioFault> {
-        self.inner.install(addr, aid)
-    }
-
-    fn remove(&mut self, addr: Addr) -> Result<(), RadioFault> {
-        self.inner.remove(addr)
-    }
-
-    fn transmit(&mut self, frame: &[u8]) -> Result<(), RadioFault> {
-        self.inner.transmit(frame)
-    }
-
+impl Habit for Telling<'_> {
     fn take_down(&mut self) {
         self.looks.take_down();
-        self.inner.take_down();
-    }
-
-    fn installed(&self, addr: Addr) -> Option<u16> {
-        self.inner.installed(addr)
-    }
-
-    fn failures(&self) -> u64 {
-        self.inner.failures()
     }
 }
 
@@ -148,12 +118,10 @@ fn serve<L: Ledger, W: Wait + Clock + Net>(
     shared: &Shared<L>,
     looks: &Looks,
 ) -> Option<()> {
-    let seat = shared.seat(rt)?;
-    let inner = Failing::new(Sim::new(alloc), 1);
-    let radio = Staged::new(rt, alloc, shared, Telling { inner, looks }, &[]);
-    let slot = Slot::new(alloc, radio, WLAN0);
-    let none = Vec::new(alloc);
-    drop(serve_radio(rt, alloc, shared, seat, slot, &Still, none, &NoGate));
+    let seat = new_seat(rt, shared)?;
+    let inner = Habitual::new(Failing::new(Sim::new(alloc), 1), Telling { looks });
+    let radio = Habitual::new(inner, Staged::new(rt, alloc, shared, &[]));
+    drop(serve_alone(rt, alloc, shared, seat, radio, &Still, &NoGate));
     Some(())
 }
 

@@ -2,7 +2,8 @@
 ghost use Rattle.std.specs.Prelude.{◌≡◌};
 
 use crate::common::{
-    Host, WLAN0, authentication, commit_all, new_core, share, started_core, station, submits,
+    Host, WLAN0, adds, authentication, close, commit_all, new_core, new_seat, share, started_core,
+    station, submits,
 };
 use crate::expect::expect;
 use apd_core::Core;
@@ -25,17 +26,23 @@ fn last(number: usize) -> Option<u8> {
 // A new seat, by which the station of this number was authenticated.
 fn seat_of<L: Ledger, W: Wait>(rt: &W, shared: &Shared<L>, number: usize) -> Option<Seat<L>> {
     let last = last(number)?;
-    let mut seat = shared.seat(rt)?;
+    let mut seat = new_seat(rt, shared)?;
     submits(rt, shared, &mut seat, &authentication(last)).then_some(seat)
 }
 
 // All of them, or none where one is missing.
 fn all<X: Drop>(alloc: Global, found: Vec<Option<X>>) -> Option<Vec<X>> {
     let mut all = Vec::new(alloc);
+    adds_each(&mut all, found).then_some(all)
+}
+
+fn adds_each<X: Drop>(list: &mut Vec<X>, found: Vec<Option<X>>) -> bool {
     for one in found {
-        all.push(one?).ok()?;
+        if !adds(list, one) {
+            return false;
+        }
     }
-    Some(all)
+    true
 }
 
 fn eight_seats<L: Ledger + Send + Sync, W: Host>(
@@ -71,7 +78,7 @@ fn close_and_show<L: Ledger>(shared: Shared<L>, seats: Option<Vec<Seat<L>>>) -> 
     requires { L.parts ≡ 65536 }
 {
     let (shared, seats) = Some(shared).zip(seats)?;
-    let (core, number) = shared.close(seats).ok()?;
+    let (core, number) = close(shared, seats)?;
     let shown = shows_eight(&core);
     drop(core);
     Some((shown, number))
@@ -85,12 +92,20 @@ fn is_told(core: &Core, last: u8) -> bool {
 }
 
 fn is_shown(core: &Core, number: usize) -> bool {
-    last(number).is_some_and(|last| is_told(core, last))
+    match last(number) {
+        Some(last) => is_told(core, last),
+        None => false,
+    }
 }
 
 // Whether a core shows the first eight stations, and not the ninth.
 fn shows_eight(core: &Core) -> bool {
-    (0..8).all(|number| is_shown(core, number)) && !is_shown(core, 8)
+    for number in 0..8 {
+        if !is_shown(core, number) {
+            return false;
+        }
+    }
+    !is_shown(core, 8)
 }
 
 #[test]
@@ -114,7 +129,7 @@ fn given_seats<L: Ledger, W: Wait>(rt: &W, alloc: Global, blank: Blank) -> Optio
 fn count_seats<L: Ledger, W: Wait>(rt: &W, shared: &Shared<L>) -> u64 {
     let mut given: u64 = 0;
     for _ask in 0..65_600 {
-        if shared.seat(rt).is_some() {
+        if new_seat(rt, shared).is_some() {
             given = given.saturating_add(1);
         }
     }
@@ -139,7 +154,8 @@ fn first_seat<L: Ledger, W: Wait>(
     alloc: Global,
     shared: &Shared<L>,
 ) -> Option<Vec<Seat<L>>> {
-    with(Vec::new(alloc), seat_of(rt, shared, 0)?)
+    let seat = seat_of(rt, shared, 0)?;
+    with(Vec::new(alloc), seat)
 }
 
 // The same, and that of the station 1.
@@ -156,7 +172,7 @@ fn close_with<L: Ledger>(shared: Shared<L>, seats: Option<Vec<Seat<L>>>) -> Opti
     requires { L.parts ≡ 65536 }
 {
     let (shared, seats) = Some(shared).zip(seats)?;
-    let (core, number) = shared.close(seats).ok()?;
+    let (core, number) = close(shared, seats)?;
     drop(core);
     Some(number)
 }

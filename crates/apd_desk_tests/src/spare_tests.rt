@@ -2,24 +2,26 @@
 ghost use Rattle.std.specs.Prelude.{◌≡◌};
 
 use crate::common::{
-    Host, Still, WLAN0, WLAN1, commit, core_of_two_radios, memory_flusher, serve_radio, share,
-    station,
+    Host, Still, WLAN0, WLAN1, adds, commit, core_of_two_radios, memory_flusher, new_seat,
+    serve_radio, share, station,
 };
 use crate::expect::expect;
 use crate::fed::{Asks, Fed, Frame, Stage, When};
 use crate::flaky::{Calls, Flaky};
-use crate::operator::replies_to;
+use crate::habit::Habitual;
+use crate::operator::{begin, replies_to};
 use apd_base::{Addr, Bssid};
 use apd_ctrl::Query;
 use apd_desk::{NoGate, Seat, Shared};
 use apd_disk::MemDisk;
 use apd_flusher::Flusher;
 use apd_mlme::Out;
-use apd_radio::Sim;
+use apd_radio::{Radio, Sim};
 use apd_slot::Slot;
 use std::alloc::Global;
 use std::marker::Brand;
 use std::net::Net;
+use std::process::Abort;
 use std::sync::Wait;
 use std::sync::ledger::{Blank, Ledger};
 use std::thread::{join, sleep};
@@ -31,7 +33,7 @@ const LOOKS: u64 = 20_000;
 /// As many calls as no test makes.
 const MANY: u64 = 1_000;
 
-type Driver<'a> = Fed<'a, Flaky<Sim>>;
+type Driver<'a> = Habitual<Flaky<Sim>, Fed<'a>>;
 
 /// What the radio receives that fails, where it has a spare.
 const BEFORE: &[Frame] = &[
@@ -94,7 +96,6 @@ const ASKED: &[&[u8]] = &[b"IFNAME=wlan0 STATUS", b"IFNAME=wlan1 STATUS", b"PING
 const UP: &[u8] = b"state=ENABLED\n";
 
 /// A spare radio: how many calls it passes on before it fails for good, and what it receives.
-#[derive(Clone, Copy)]
 struct Spare(u64, &'static [Frame]);
 
 /// How the first radio is when it is handed to its worker, and how often its driver fails then.
@@ -104,6 +105,19 @@ enum Begins {
     Up(u64),
     /// Down; it fails at once.
     Down(u64),
+}
+
+impl Begins {
+    // The calls of its driver: one more fails where it is down at first.
+    fn calls(self) -> Calls {
+        match self {
+            Begins::Up(faults) => Calls { passes: 1, faults },
+            Begins::Down(faults) => Calls {
+                passes: 0,
+                faults: faults.saturating_add(1),
+            },
+        }
+    }
 }
 
 /// How the first radio begins, what it receives, its spares, and how the replies begin.
@@ -122,18 +136,16 @@ struct Stages {
     other: Stage,
 }
 
-/// What is seen of a slot at the end: whether it is up, and under which identifiers it wants and has two stations.
-#[derive(Clone, Copy, Debug, PartialEq, Eq)]
-struct Seen {
-    up: bool,
-    wanted: [Option<u16>; 2],
-    installed: [Option<u16>; 2],
-}
+/// Under which identifiers a slot has two stations.
+type Identifiers = [Option<u16>; 2];
+
+/// What is seen of a slot at the end: whether it is up, which stations it wants, and which are installed.
+type Seen = (bool, Identifiers, Identifiers);
 
 /// What a test finds: whether all stations came and the replies are those, what is seen of both slots, how often the
 /// first one's radios were taken down, how many frames were sent by the first one's and by the other's, and how many of
 /// those answer a request for association.
-#[derive(Clone, Copy, Debug, PartialEq, Eq)]
+#[derive(Clone, Copy)]
 struct Found {
     served: bool,
     first: Option<Seen>,
@@ -141,6 +153,22 @@ struct Found {
     downs: usize,
     sent: [usize; 2],
     associations: [usize; 2],
+}
+
+/// The same, in that order.
+type Told = (bool, [Option<Seen>; 2], usize, [usize; 2], [usize; 2]);
+
+impl Found {
+    // All of it, to be compared and printed.
+    fn tell(self) -> Told {
+        (
+            self.served,
+            [self.first, self.other],
+            self.downs,
+            self.sent,
+            self.associations,
+        )
+    }
 }
 
 // Whether a station's row is there, and its flags begin so.
@@ -153,10 +181,7 @@ fn shows<L: Ledger, W: Wait>(
 ) -> bool {
     let (bssid, last) = row;
     match shared.ask(rt, seat, Query::Sta(bssid, station(last))) {
-        Ok(answer) => answer
-            .text()
-            .get(18..)
-            .is_some_and(|rest| rest.starts_with(flags)),
+        Ok(answer) => answer.text().get(18..).unwrap_or(&[]).starts_with(flags),
         Err(_) => false,
     }
 }
@@ -213,25 +238,18 @@ fn all_come<L: Ledger, W: Wait + Clock>(
     associated && both_authenticate(rt, shared, seat)
 }
 
-// Whether these are the beginnings of the replies.
-fn begin(replies: &[Vec<u8>], texts: &[&[u8]]) -> bool {
-    replies.len() == texts.len()
-        && replies
-            .iter()
-            .zip(texts)
-            .all(|(reply, text)| reply.as_slice().starts_with(text))
-}
-
 // Asks, and tells all to stop. Whether the replies begin so.
-fn replies<'a, L: Ledger, W: Wait + Clock + Net>(
-    rt: &'a W,
+fn replies<L: Ledger, W: Wait + Clock + Net>(
+    rt: &W,
     alloc: Global,
-    shared: &'a Shared<L>,
+    shared: &Shared<L>,
     seat: Seat<L>,
     texts: &[&[u8]],
 ) -> bool {
     let replies = replies_to(rt, alloc, shared, seat, ASKED);
-    begin(replies.as_slice(), texts)
+    let expected = begin(replies.as_slice(), texts);
+    drop(replies);
+    expected
 }
 
 // Waits until it is noted of the first radio that it is up, or that it is down: it may be tried again still. Tells
@@ -255,7 +273,7 @@ fn ask<L: Ledger, W: Wait + Clock + Net>(
     stages: &Stages,
     scene: Scene,
 ) -> Option<bool> {
-    let mut seat = shared.seat(rt)?;
+    let mut seat = new_seat(rt, shared)?;
     let up = scene.replies.first() == Some(&UP);
     let come = all_come(rt, shared, &mut seat, stages) && wait_until_noted(rt, shared, up);
     Some(replies(rt, alloc, shared, seat, scene.replies) && come)
@@ -278,23 +296,23 @@ fn commit_and_ask<L: Ledger + Send + Sync, W: Host>(
     .1 == Some(true)
 }
 
-fn see(slot: &Slot<Driver<'_>>, stations: [Addr; 2]) -> Seen {
+fn see<R: Radio>(slot: &Slot<R>, stations: [Addr; 2]) -> Seen {
     let [one, two] = stations;
-    Seen {
-        up: slot.is_up(),
-        wanted: [slot.wanted(one), slot.wanted(two)],
-        installed: [slot.installed(one), slot.installed(two)],
-    }
+    (
+        slot.is_up(),
+        [slot.wanted(one), slot.wanted(two)],
+        [slot.installed(one), slot.installed(two)],
+    )
 }
 
 // Serves a radio, and tells what is seen of these stations then.
-fn serve<'a, L: Ledger, W: Wait + Clock + Net>(
+fn serve<L: Ledger, W: Wait + Clock + Net, R: Radio>(
     rt: &W,
     alloc: Global,
     shared: &Shared<L>,
     seat: Seat<L>,
-    slot: Slot<Driver<'a>>,
-    spares: Vec<Driver<'a>>,
+    slot: Slot<R>,
+    spares: Vec<R>,
     stations: [Addr; 2],
 ) -> Seen {
     let (seat, slot) = serve_radio(rt, alloc, shared, seat, slot, &Still, spares, &NoGate);
@@ -312,49 +330,57 @@ fn driver<'a>(
     stage: &'a Stage,
     frames: &'static [Frame],
 ) -> Driver<'a> {
-    Fed::new(
-        alloc,
-        Flaky::new(Sim::new(alloc), calls),
-        bssid,
-        stage,
-        frames,
-    )
+    let inner = Flaky::new(Sim::new(alloc), calls);
+    Habitual::new(inner, Fed::new(alloc, bssid, stage, frames))
+}
+
+// A spare of the first radio.
+fn spare_radio<'a>(alloc: Global, stage: &'a Stage, spare: &Spare) -> Driver<'a> {
+    let Spare(passes, frames) = spare;
+    let calls = Calls {
+        passes: *passes,
+        faults: MANY,
+    };
+    driver(alloc, calls, 1, stage, frames)
+}
+
+fn adds_spares<'a>(
+    alloc: Global,
+    list: &mut Vec<Driver<'a>>,
+    stage: &'a Stage,
+    spares: &[Spare],
+) -> bool {
+    for spare in spares {
+        if !adds(list, Some(spare_radio(alloc, stage, spare))) {
+            return false;
+        }
+    }
+    true
 }
 
 // The spares of the first radio.
 fn spares<'a>(alloc: Global, stage: &'a Stage, scene: Scene) -> Option<Vec<Driver<'a>>> {
     let mut spares = Vec::new(alloc);
-    for Spare(passes, frames) in scene.spares {
-        let calls = Calls {
-            passes: *passes,
-            faults: MANY,
-        };
-        spares.push(driver(alloc, calls, 1, stage, frames)).ok()?;
-    }
-    Some(spares)
+    adds_spares(alloc, &mut spares, stage, scene.spares).then_some(spares)
 }
 
-// A slot at which the device fails so often, and which is up then.
-fn slot_up<'a>(alloc: Global, faults: u64, stage: &'a Stage, scene: Scene) -> Slot<Driver<'a>> {
-    let calls = Calls { passes: 1, faults };
-    Slot::new(alloc, driver(alloc, calls, 1, stage, scene.frames), WLAN0)
+// The first radio.
+fn first_radio<'a>(alloc: Global, stage: &'a Stage, scene: Scene) -> Driver<'a> {
+    driver(alloc, scene.begins.calls(), 1, stage, scene.frames)
 }
 
-// One at which the device failed once more before, when a station was removed that isn't there.
-fn slot_down<'a>(alloc: Global, faults: u64, stage: &'a Stage, scene: Scene) -> Slot<Driver<'a>> {
-    let calls = Calls {
-        passes: 0,
-        faults: faults.saturating_add(1),
-    };
-    let mut slot = Slot::new(alloc, driver(alloc, calls, 1, stage, scene.frames), WLAN0);
+// A slot whose device failed once before, when a station was removed that isn't there.
+fn slot_down<R: Radio>(alloc: Global, radio: R) -> Slot<R> {
+    let mut slot = Slot::new(alloc, radio, WLAN0);
     let _down = slot.apply(&Out::Remove(station(0xaa)));
     slot
 }
 
 fn first_slot<'a>(alloc: Global, stage: &'a Stage, scene: Scene) -> Slot<Driver<'a>> {
+    let radio = first_radio(alloc, stage, scene);
     match scene.begins {
-        Begins::Up(faults) => slot_up(alloc, faults, stage, scene),
-        Begins::Down(faults) => slot_down(alloc, faults, stage, scene),
+        Begins::Up(_) => Slot::new(alloc, radio, WLAN0),
+        Begins::Down(_) => slot_down(alloc, radio),
     }
 }
 
@@ -365,7 +391,7 @@ fn serve_first<L: Ledger, W: Wait + Clock + Net>(
     stage: &Stage,
     scene: Scene,
 ) -> Option<Seen> {
-    let (seat, spares) = shared.seat(rt).zip(spares(alloc, stage, scene))?;
+    let (seat, spares) = new_seat(rt, shared).zip(spares(alloc, stage, scene))?;
     let slot = first_slot(alloc, stage, scene);
     let stations = [station(0xaa), station(0xbb)];
     Some(serve(rt, alloc, shared, seat, slot, spares, stations))
@@ -377,7 +403,7 @@ fn serve_other<L: Ledger, W: Wait + Clock + Net>(
     shared: &Shared<L>,
     stage: &Stage,
 ) -> Option<Seen> {
-    let seat = shared.seat(rt)?;
+    let seat = new_seat(rt, shared)?;
     let calls = Calls {
         passes: MANY,
         faults: 0,
@@ -442,14 +468,14 @@ fn run<L: Ledger + Send + Sync, W: Host>(
     alloc: Global,
     shared: &Shared<L>,
     scene: Scene,
-) -> Option<Found> {
+) -> Option<Told> {
     let flusher = memory_flusher(alloc)?;
     let stages = Stages {
         first: Stage::new(),
         other: Stage::new(),
     };
     let served = serve_and_ask(rt, alloc, shared, flusher, &stages, scene);
-    Some(gather(&stages, served))
+    Some(gather(&stages, served).tell())
 }
 
 fn find<L: Ledger + Send + Sync, W: Host>(
@@ -457,7 +483,7 @@ fn find<L: Ledger + Send + Sync, W: Host>(
     alloc: Global,
     blank: Blank,
     scene: Scene,
-) -> Option<Found>
+) -> Option<Told>
     requires name { blank.name ≡ L.name }
     requires parts { blank.parts ≡ L.parts }
     requires all { blank.parts ≡ 65536 }
@@ -469,26 +495,22 @@ fn find<L: Ledger + Send + Sync, W: Host>(
 }
 
 // What is seen of the other slot, which lost nothing.
-const OTHER: Seen = Seen {
-    up: true,
-    wanted: [Some(1), None],
-    installed: [Some(1), None],
-};
+const OTHER: Seen = (true, [Some(1), None], [Some(1), None]);
 
 // What is found where a spare serves: the station is installed there, and the answer behind that is the spare's, which
 // then serves another station.
 const MENDED: Found = Found {
     served: true,
-    first: Some(Seen {
-        up: true,
-        wanted: [Some(1), Some(2)],
-        installed: [Some(1), Some(2)],
-    }),
+    first: Some((true, [Some(1), Some(2)], [Some(1), Some(2)])),
     other: Some(OTHER),
     downs: 3,
     sent: [4, 2],
     associations: [2, 1],
 };
+
+fn expect_found(rt: &impl Abort, found: Option<Told>, wanted: Found) {
+    expect(rt, found, Some(wanted.tell()));
+}
 
 fn with_spares(spares: &'static [Spare]) -> Scene {
     Scene {
@@ -504,7 +526,7 @@ fn with_spares(spares: &'static [Spare]) -> Scene {
 fn a_spare_has_what_is_wanted(rt: HostRuntime) {
     let scene = with_spares(&[Spare(MANY, BEHIND)]);
     let found = find::<Brand, _>(&rt, rt.alloc(), Blank::new(65_536), scene);
-    expect(&rt, found, Some(MENDED));
+    expect_found(&rt, found, MENDED);
 }
 
 // The first spare fails at its first call, so the second serves. Taken down is the first too, as it is tried and as it
@@ -517,7 +539,7 @@ fn spares_are_tried_in_order(rt: HostRuntime) {
         downs: 3 + 2,
         ..MENDED
     };
-    expect(&rt, found, Some(wanted));
+    expect_found(&rt, found, wanted);
 }
 
 // It is tried three times. Then its frames are entries still, of one station that leaves and one that comes, but the
@@ -530,21 +552,16 @@ fn a_slot_without_a_spare_stays_down_after_three_tries(rt: HostRuntime) {
         spares: &[],
         replies: &[b"state=DISABLED\n", UP, b"PONG\n"],
     };
-    let first = Seen {
-        up: false,
-        wanted: [None, Some(2)],
-        installed: [None, None],
-    };
     let found = find::<Brand, _>(&rt, rt.alloc(), Blank::new(65_536), scene);
     let wanted = Found {
         served: true,
-        first: Some(first),
+        first: Some((false, [None, Some(2)], [None, None])),
         other: Some(OTHER),
         downs: 1 + 3,
         sent: [1, 2],
         associations: [0, 1],
     };
-    expect(&rt, found, Some(wanted));
+    expect_found(&rt, found, wanted);
 }
 
 // The spare that takes its place sends three frames and answers, and fails when the second station is installed. Taken
@@ -558,7 +575,7 @@ fn a_spare_that_fails_has_a_spare(rt: HostRuntime) {
         downs: 3 + 2,
         ..MENDED
     };
-    expect(&rt, found, Some(wanted));
+    expect_found(&rt, found, wanted);
 }
 
 // What is found without a spare where the radio serves again at the try of this number.
@@ -581,10 +598,14 @@ fn alone(begins: Begins) -> Scene {
 // What stands behind the out at which it failed is sent.
 #[test]
 fn a_slot_that_is_given_anew_what_is_wanted_is_up(rt: HostRuntime) {
-    for (faults, tries) in [(1, 1), (3, 3)] {
-        let scene = alone(Begins::Up(faults));
+    for (faults, tries) in [(1, 1), (3, 3)].as_slice() {
+        let scene = alone(Begins::Up(*faults));
         let found = find::<Brand, _>(&rt, rt.alloc(), Blank::new(65_536), scene);
-        expect(&rt, (faults, found), (faults, Some(served_again(tries))));
+        expect(
+            &rt,
+            (*faults, found),
+            (*faults, Some(served_again(*tries).tell())),
+        );
     }
 }
 
@@ -593,5 +614,5 @@ fn a_slot_that_is_given_anew_what_is_wanted_is_up(rt: HostRuntime) {
 fn a_slot_that_is_down_at_first_is_mended(rt: HostRuntime) {
     let scene = alone(Begins::Down(0));
     let found = find::<Brand, _>(&rt, rt.alloc(), Blank::new(65_536), scene);
-    expect(&rt, found, Some(served_again(1)));
+    expect_found(&rt, found, served_again(1));
 }

@@ -1,13 +1,9 @@
-//! A clock, a gate and radios by which a test says when something comes, and when all are to stop.
-ghost use Rattle.std.specs.Prelude.{◌≡◌};
-ghost use Rattle.std.specs.FinMap as map;
-ghost use Rattle.apd_radio.specs.Model.{inside};
-
-use apd_base::{Addr, Moment};
+//! A clock, a gate and habits of radios by which a test says when something comes, and when all are to stop.
+use crate::common::stop;
+use crate::habit::{Given, Habit};
+use apd_base::Moment;
 use apd_desk::{Clock, Gate, Place, Shared};
-use apd_radio::{Radio, RadioFault};
-use std::alloc::Global;
-use std::os::fd::RawFd;
+use std::alloc::{AllocError, Global};
 use std::sync::Wait;
 use std::sync::atomic::{AtomicBool, AtomicU64, AtomicUsize, Ordering};
 use std::sync::ledger::Ledger;
@@ -43,7 +39,7 @@ impl<L: Ledger, W: Wait> Clock for StagedClock<'_, L, W> {
     fn now(&self) -> Moment {
         let at = self.told.fetch_add(1, Ordering::SeqCst);
         if at.saturating_add(1) >= self.moments.len() {
-            self.shared.stop(self.rt);
+            stop(self.rt, self.shared);
         }
         Moment(self.moments.get(at).copied().unwrap_or(0))
     }
@@ -92,123 +88,65 @@ impl Gate for Log {
     }
 }
 
-/// The radio inside, which receives these frames, one at each look, and tells all to stop at the look behind them.
+/// A radio that receives these frames, one at each look, and tells all to stop at the look behind them.
 #[derive(Drop)]
-pub(crate) struct Staged<'a, R: Radio, L: Ledger, W: Wait> {
+pub(crate) struct Staged<'a, L: Ledger, W: Wait> {
     rt: &'a W,
     alloc: Global,
     shared: &'a Shared<L>,
-    inner: R,
     frames: &'a [&'a [u8]],
     given: usize,
 }
 
-impl<'a, R: Radio, L: Ledger, W: Wait> Staged<'a, R, L, W> {
+impl<'a, L: Ledger, W: Wait> Staged<'a, L, W> {
     pub(crate) fn new(
         rt: &'a W,
         alloc: Global,
         shared: &'a Shared<L>,
-        inner: R,
         frames: &'a [&'a [u8]],
-    ) -> Staged<'a, R, L, W> {
+    ) -> Staged<'a, L, W> {
         Staged {
             rt,
             alloc,
             shared,
-            inner,
             frames,
             given: 0,
         }
     }
-}
 
-impl<R: Radio, L: Ledger, W: Wait> Radio for Staged<'_, R, L, W> {
-    ghost model = { inside R.model (λ radio. radio.inner) };
-
-    fn poll(&mut self) -> Result<Option<Vec<u8>>, RadioFault> {
+    fn next(&mut self) -> Given {
         let Some(frame) = self.frames.get(self.given) else {
-            self.shared.stop(self.rt);
+            stop(self.rt, self.shared);
             return Ok(None);
         };
         let frame = Vec::from_slice(self.alloc, frame)?;
         self.given += 1;
         Ok(Some(frame))
     }
+}
 
-    fn install(&mut self, addr: Addr, aid: u16) -> Result<(), RadioFault> {
-        self.inner.install(addr, aid)
-    }
-
-    fn remove(&mut self, addr: Addr) -> Result<(), RadioFault> {
-        self.inner.remove(addr)
-    }
-
-    fn transmit(&mut self, frame: &[u8]) -> Result<(), RadioFault> {
-        self.inner.transmit(frame)
-    }
-
-    fn take_down(&mut self) {
-        self.inner.take_down();
-    }
-
-    fn installed(&self, addr: Addr) -> Option<u16> {
-        self.inner.installed(addr)
-    }
-
-    fn failures(&self) -> u64 {
-        self.inner.failures()
+impl<L: Ledger, W: Wait> Habit for Staged<'_, L, W> {
+    fn give(&mut self) -> Option<Given> {
+        Some(self.next())
     }
 }
 
-/// The radio inside, which meets want of memory at its first frame, so many times.
+/// A radio that meets want of memory at its first frame, so many times.
 #[derive(Drop)]
-pub(crate) struct Short<R: Radio> {
-    pub(crate) inner: R,
+pub(crate) struct Short {
     pub(crate) times: u64,
 }
 
-impl<R: Radio> Radio for Short<R> {
-    ghost model = { inside R.model (λ radio. radio.inner) };
-
-    fn poll(&mut self) -> Result<Option<Vec<u8>>, RadioFault> {
-        self.inner.poll()
-    }
-
-    fn descriptor(&self) -> Option<RawFd> {
-        self.inner.descriptor()
-    }
-
-    fn install(&mut self, addr: Addr, aid: u16) -> Result<(), RadioFault> {
-        self.inner.install(addr, aid)
-    }
-
-    fn remove(&mut self, addr: Addr) -> Result<(), RadioFault> {
-        self.inner.remove(addr)
-    }
-
-    fn transmit(&mut self, frame: &[u8]) -> Result<(), RadioFault> {
-        if self.times > 0 {
-            self.times -= 1;
-            return Err(RadioFault::NoMemory);
-        }
-        self.inner.transmit(frame)
-    }
-
-    fn take_down(&mut self) {
-        self.inner.take_down();
-    }
-
-    fn installed(&self, addr: Addr) -> Option<u16> {
-        self.inner.installed(addr)
-    }
-
-    fn failures(&self) -> u64 {
-        self.inner.failures()
+impl Habit for Short {
+    fn refuses(&mut self, _frame: &[u8]) -> bool {
+        let refuses = self.times > 0;
+        self.times = self.times.saturating_sub(1);
+        refuses
     }
 }
 
 /// What a radio's poll gives behind each frame.
-#[derive(Clone, Copy, PartialEq, Eq)]
+#[derive(Clone, Copy)]
 pub(crate) enum Trail {
     /// A frame of one byte, which is no request.
     Noise,
@@ -216,114 +154,78 @@ pub(crate) enum Trail {
     Fault,
 }
 
-/// The radio inside, behind each frame of which its next poll gives something that becomes no entry.
+/// A radio behind each frame of which its next poll gives something that becomes no entry.
 #[derive(Drop)]
-pub(crate) struct Trailed<R: Radio> {
-    pub(crate) alloc: Global,
-    pub(crate) inner: R,
-    pub(crate) trail: Trail,
-    /// Whether that is to come.
-    pub(crate) comes: bool,
+pub(crate) struct Trailed {
+    alloc: Global,
+    trail: Trail,
+    // Whether that is to come.
+    comes: bool,
 }
 
-impl<R: Radio> Radio for Trailed<R> {
-    ghost model = { inside R.model (λ radio. radio.inner) };
+impl Trailed {
+    pub(crate) fn new(alloc: Global, trail: Trail) -> Trailed {
+        Trailed {
+            alloc,
+            trail,
+            comes: false,
+        }
+    }
 
-    fn poll(&mut self) -> Result<Option<Vec<u8>>, RadioFault> {
+    fn trail(&self) -> Given {
+        match self.trail {
+            Trail::Noise => Ok(Some(Vec::from_slice(self.alloc, &[0])?)),
+            Trail::Fault => Err(AllocError),
+        }
+    }
+}
+
+impl Habit for Trailed {
+    fn give(&mut self) -> Option<Given> {
         if self.comes {
             self.comes = false;
-            if self.trail == Trail::Fault {
-                return Err(RadioFault::NoMemory);
-            }
-            return Ok(Some(Vec::from_slice(self.alloc, &[0])?));
+            Some(self.trail())
+        } else {
+            None
         }
-        let frame = self.inner.poll()?;
-        self.comes = frame.is_some();
-        Ok(frame)
     }
 
-    fn descriptor(&self) -> Option<RawFd> {
-        self.inner.descriptor()
-    }
-
-    fn install(&mut self, addr: Addr, aid: u16) -> Result<(), RadioFault> {
-        self.inner.install(addr, aid)
-    }
-
-    fn remove(&mut self, addr: Addr) -> Result<(), RadioFault> {
-        self.inner.remove(addr)
-    }
-
-    fn transmit(&mut self, frame: &[u8]) -> Result<(), RadioFault> {
-        self.inner.transmit(frame)
-    }
-
-    fn take_down(&mut self) {
-        self.inner.take_down();
-    }
-
-    fn installed(&self, addr: Addr) -> Option<u16> {
-        self.inner.installed(addr)
-    }
-
-    fn failures(&self) -> u64 {
-        self.inner.failures()
+    fn hear(&mut self, came: bool) {
+        self.comes = came;
     }
 }
 
-/// The radio inside, whose descriptor is told only after a rest behind each frame: as if its worker was held up between
-/// its last look and its sleep.
+/// A radio whose descriptor is told only after a rest behind each frame: as if its worker was held up between its last
+/// look and its sleep.
 #[derive(Drop)]
-pub(crate) struct Resting<'a, R: Radio, W: time::Clock> {
-    pub(crate) clock: &'a W,
-    pub(crate) inner: R,
-    /// Whether a frame was given since the last rest.
-    pub(crate) heard: AtomicBool,
+pub(crate) struct Resting<'a, W: time::Clock> {
+    clock: &'a W,
+    // Whether a frame was given since the last rest.
+    heard: AtomicBool,
+}
+
+impl<'a, W: time::Clock> Resting<'a, W> {
+    pub(crate) fn new(clock: &'a W) -> Resting<'a, W> {
+        Resting {
+            clock,
+            heard: AtomicBool::new(false),
+        }
+    }
 }
 
 /// How long that rest is, in milliseconds: what the frame asks for is settled by then.
 const REST: u64 = 400;
 
-impl<R: Radio, W: time::Clock> Radio for Resting<'_, R, W> {
-    ghost model = { inside R.model (λ radio. radio.inner) };
-
-    fn poll(&mut self) -> Result<Option<Vec<u8>>, RadioFault> {
-        let frame = self.inner.poll()?;
-        if frame.is_some() {
+impl<W: time::Clock> Habit for Resting<'_, W> {
+    fn hear(&mut self, came: bool) {
+        if came {
             self.heard.store(true, Ordering::SeqCst);
         }
-        Ok(frame)
     }
 
-    fn descriptor(&self) -> Option<RawFd> {
-        if self.heard.load(Ordering::SeqCst) {
-            self.heard.store(false, Ordering::SeqCst);
+    fn pause(&self) {
+        if self.heard.swap(false, Ordering::SeqCst) {
             sleep(self.clock, Duration::from_millis(REST));
         }
-        self.inner.descriptor()
-    }
-
-    fn install(&mut self, addr: Addr, aid: u16) -> Result<(), RadioFault> {
-        self.inner.install(addr, aid)
-    }
-
-    fn remove(&mut self, addr: Addr) -> Result<(), RadioFault> {
-        self.inner.remove(addr)
-    }
-
-    fn transmit(&mut self, frame: &[u8]) -> Result<(), RadioFault> {
-        self.inner.transmit(frame)
-    }
-
-    fn take_down(&mut self) {
-        self.inner.take_down();
-    }
-
-    fn installed(&self, addr: Addr) -> Option<u16> {
-        self.inner.installed(addr)
-    }
-
-    fn failures(&self) -> u64 {
-        self.inner.failures()
     }
 }

@@ -4,13 +4,14 @@ ghost use Rattle.std.specs.Prelude.{◌≡◌};
 
 use crate::asking::{Asker, Commands, Question, free_port, rest};
 use crate::common::{
-    Host, Still, WLAN0, asked_core, authentication, commit, memory_flusher, serve_radio, share,
-    started_core,
+    Host, Still, WLAN0, adds, asked_core, authentication, commit, memory_flusher, new_seat,
+    serve_port, serve_radio, serve_ticks, share, started_core, stop,
 };
 use crate::expect::expect;
+use crate::habit::{Habit, Habitual};
 use crate::staged::{Resting, Short, Trail, Trailed};
 use apd_core::Core;
-use apd_desk::{Gate, NoGate, Place, Shared, control_worker, tick_worker};
+use apd_desk::{Gate, NoGate, Place, Shared};
 use apd_disk::MemDisk;
 use apd_flusher::Flusher;
 use apd_radio::{Datagrams, Failing, Radio, UdpSim};
@@ -19,9 +20,8 @@ use std::alloc::Global;
 use std::marker::Brand;
 use std::net::Net;
 use std::sync::Wait;
-use std::sync::atomic::AtomicBool;
 use std::sync::ledger::{Blank, Ledger};
-use std::thread::{Threads, join, sleep};
+use std::thread::{join, sleep};
 use std::time::{Clock, Duration};
 
 /// How long a call of the device takes, in milliseconds: who waits for what is settled sleeps by then.
@@ -64,37 +64,38 @@ fn serve_slot<L: Ledger, W: Wait + Clock + Net, R: Radio>(
     radio: R,
     spares: Vec<R>,
 ) {
-    if let Some((seat, (radio, spares))) = shared.seat(rt).zip(Some((radio, spares))) {
+    if let Some((seat, (radio, spares))) = new_seat(rt, shared).zip(Some((radio, spares))) {
         let slot = Slot::new(alloc, radio, WLAN0);
         drop(serve_radio(rt, alloc, shared, seat, slot, &Still, spares, &NoGate));
     }
 }
 
-fn serve_port<L: Ledger, W: Wait + Clock + Net>(
+fn serve_commands<L: Ledger, W: Wait + Clock + Net>(
     rt: &W,
     alloc: Global,
     shared: &Shared<L>,
     port: Commands,
 ) {
-    if let Some((seat, port)) = shared.seat(rt).zip(Some(port)) {
-        drop(control_worker(rt, alloc, shared, seat, port, &Still, &NoGate));
-    }
-}
-
-fn serve_ticks<L: Ledger, W: Wait + Clock>(rt: &W, shared: &Shared<L>) {
-    if let Some(seat) = shared.seat(rt) {
-        drop(tick_worker(rt, shared, seat, &Still, &NoGate));
+    if let Some((seat, port)) = new_seat(rt, shared).zip(Some(port)) {
+        drop(serve_port(rt, alloc, shared, seat, port, &NoGate));
     }
 }
 
 // Has a new asker ask each question, until one gets no answer. Whether each is answered.
 fn ask_each(rt: &(impl Clock + Net), questions: &[Question<'_>]) -> bool {
     match Asker::new(rt) {
-        Some(asker) => questions
-            .iter()
-            .all(|question| asker.gets_answer(rt, question)),
+        Some(asker) => gets_each(rt, &asker, questions),
         None => false,
     }
+}
+
+fn gets_each(clock: &impl Clock, asker: &Asker, questions: &[Question<'_>]) -> bool {
+    for question in questions {
+        if !asker.gets_answer(clock, question) {
+            return false;
+        }
+    }
+    true
 }
 
 // Asks each question while all workers wait, and tells them to stop while they wait. Whether each was answered.
@@ -105,15 +106,55 @@ fn ask<L: Ledger, W: Wait + Clock + Net>(
 ) -> bool {
     let answered = ask_each(rt, questions);
     rest(rt);
-    shared.stop(rt);
+    stop(rt, shared);
     answered
 }
 
-// Works in a thread of its own while the others are asked. Whether they answer.
-fn beside<W: Threads, F: FnOnce() + Send, G: FnOnce() -> bool>(rt: &W, work: F, ask: G) -> bool
-    requires { F.pre work × G.pre ask }
-{
-    join(rt, work, ask).1
+// Asks beside the worker of ticks.
+fn tick_and_ask<L: Ledger + Send + Sync, W: Host>(
+    rt: &W,
+    shared: &Shared<L>,
+    questions: &[Question<'_>],
+) -> bool {
+    join(
+        rt,
+        move || drop(serve_ticks(rt, shared)),
+        move || ask(rt, shared, questions),
+    )
+    .1
+}
+
+// The same beside the worker of the control port.
+fn serve_commands_and_ask<L: Ledger + Send + Sync, W: Host>(
+    rt: &W,
+    alloc: Global,
+    shared: &Shared<L>,
+    port: Commands,
+    questions: &[Question<'_>],
+) -> bool {
+    join(
+        rt,
+        move || serve_commands(rt, alloc, shared, port),
+        move || tick_and_ask(rt, shared, questions),
+    )
+    .1
+}
+
+// The same beside the worker that commits.
+fn commit_and_ask<L: Ledger + Send + Sync, W: Host>(
+    rt: &W,
+    alloc: Global,
+    shared: &Shared<L>,
+    flusher: Flusher<MemDisk>,
+    port: Commands,
+    questions: &[Question<'_>],
+) -> bool {
+    join(
+        rt,
+        move || commit(rt, shared, flusher, &Slow(rt)),
+        move || serve_commands_and_ask(rt, alloc, shared, port, questions),
+    )
+    .1
 }
 
 // Whether each question is answered by workers in threads of their own, which then end.
@@ -130,25 +171,12 @@ fn serve_and_ask<L: Ledger + Send + Sync, W: Host, R: Radio + Send>(
         spares,
         port,
     } = crew;
-    let tick_and_ask = move || {
-        let ticks = move || serve_ticks(rt, shared);
-        beside(rt, ticks, move || ask(rt, shared, questions))
-    };
-    let serve_and_ask = move || beside(
-        rt,
-        move || serve_port(rt, alloc, shared, port),
-        tick_and_ask,
-    );
-    let commit_and_ask = move || beside(
-        rt,
-        move || commit(rt, shared, flusher, &Slow(rt)),
-        serve_and_ask,
-    );
-    beside(
+    join(
         rt,
         move || serve_slot(rt, alloc, shared, radio, spares),
-        commit_and_ask,
+        move || commit_and_ask(rt, alloc, shared, flusher, port, questions),
     )
+    .1
 }
 
 // A crew of these, where none is missing.
@@ -188,7 +216,11 @@ fn share_and_ask<L: Ledger + Send + Sync, W: Host, R: Radio + Send>(
 {
     let shared: Option<Shared<L>> = share(core, blank);
     match shared.zip(crew) {
-        Some((shared, crew)) => serve_and_ask(rt, alloc, &shared, crew, questions),
+        Some((shared, crew)) => {
+            let answered = serve_and_ask(rt, alloc, &shared, crew, questions);
+            drop(shared);
+            answered
+        }
         None => false,
     }
 }
@@ -238,8 +270,7 @@ fn failing_radio(rt: &impl Net, alloc: Global, port: u16, calls: u64) -> Option<
 // One that passes a hundred on.
 fn one_spare(rt: &impl Net, alloc: Global, port: u16) -> Option<Vec<Failing<UdpSim>>> {
     let mut spares = Vec::new(alloc);
-    spares.push(failing_radio(rt, alloc, port, 100)?).ok()?;
-    Some(spares)
+    adds(&mut spares, failing_radio(rt, alloc, port, 100)).then_some(spares)
 }
 
 // A radio that fails as a station is installed, and another one that takes its place.
@@ -270,19 +301,25 @@ fn a_radio_that_took_anothers_place_is_waited_for(rt: HostRuntime) {
     expect(&rt, answers_at_a_spare(&rt, rt.alloc()), Some(true));
 }
 
-// A radio at this port that lacks memory, so often that its worker waits in between.
-fn short_radio(rt: &impl Net, alloc: Global, port: u16) -> Option<Short<UdpSim>> {
-    let inner = UdpSim::new(rt, alloc, port).ok()?;
-    Some(Short { inner, times: 260 })
+// A radio at this port with a habit.
+fn radio_with<H: Habit>(
+    rt: &impl Net,
+    alloc: Global,
+    port: u16,
+    habit: H,
+) -> Option<Habitual<UdpSim, H>> {
+    let (inner, habit) = UdpSim::new(rt, alloc, port).ok().zip(Some(habit))?;
+    Some(Habitual::new(inner, habit))
 }
 
-// How a frame is answered by a radio that lacks memory for the answer.
+// How a frame is answered by a radio that lacks memory for the answer, so often that its worker waits in between.
 fn answers_where_memory_lacks<W: Host>(rt: &W, alloc: Global) -> Option<bool> {
     let (radio_port, port) = two_free_ports(rt)?;
     let frame = authentication(0xaa);
     let questions = [Question::new(radio_port, &frame, &AUTHENTICATED, 1)];
     let core = started_core(alloc);
-    let crew = crew_with(rt, alloc, short_radio(rt, alloc, radio_port), port);
+    let radio = radio_with(rt, alloc, radio_port, Short { times: 260 });
+    let crew = crew_with(rt, alloc, radio, port);
     let blank = Blank::new(65_536);
     Some(share_and_ask::<Brand, _, _>(rt, alloc, blank, core, crew, &questions))
 }
@@ -304,20 +341,10 @@ fn answers_before_a_trail<W: Host>(rt: &W, alloc: Global, trail: Trail) -> Optio
         Question::new(radio_port, &frame, &AUTHENTICATED, 150),
     ];
     let core = started_core(alloc);
-    let crew = crew_with(rt, alloc, trailed_radio(rt, alloc, radio_port, trail), port);
+    let radio = radio_with(rt, alloc, radio_port, Trailed::new(alloc, trail));
+    let crew = crew_with(rt, alloc, radio, port);
     let blank = Blank::new(65_536);
     Some(share_and_ask::<Brand, _, _>(rt, alloc, blank, core, crew, &questions))
-}
-
-// A radio at this port with such a trail.
-fn trailed_radio(rt: &impl Net, alloc: Global, port: u16, trail: Trail) -> Option<Trailed<UdpSim>> {
-    let inner = UdpSim::new(rt, alloc, port).ok()?;
-    Some(Trailed {
-        alloc,
-        inner,
-        trail,
-        comes: false,
-    })
 }
 
 #[test]
@@ -338,27 +365,14 @@ fn a_burst_is_committed_behind_which_the_poll_fails(rt: HostRuntime) {
     );
 }
 
-// A radio at this port whose worker is held up before it sleeps.
-fn resting_radio<'a, W: Host>(
-    rt: &'a W,
-    alloc: Global,
-    port: u16,
-) -> Option<Resting<'a, UdpSim, W>> {
-    let inner = UdpSim::new(rt, alloc, port).ok()?;
-    Some(Resting {
-        clock: rt,
-        inner,
-        heard: AtomicBool::new(false),
-    })
-}
-
 // How a frame is answered whose answer is ready between a worker's last look and its sleep.
 fn answers_before_a_sleep<W: Host>(rt: &W, alloc: Global) -> Option<bool> {
     let (radio_port, port) = two_free_ports(rt)?;
     let frame = authentication(0xaa);
     let questions = [Question::new(radio_port, &frame, &AUTHENTICATED, 1); 3];
     let core = started_core(alloc);
-    let crew = crew_with(rt, alloc, resting_radio(rt, alloc, radio_port), port);
+    let radio = radio_with(rt, alloc, radio_port, Resting::new(rt));
+    let crew = crew_with(rt, alloc, radio, port);
     let blank = Blank::new(65_536);
     Some(share_and_ask::<Brand, _, _>(rt, alloc, blank, core, crew, &questions))
 }
