@@ -33,9 +33,9 @@ fn serve<L: Ledger, W: Wait + Clock + Net>(
 ) -> bool {
     let operator = Operator::new(rt, alloc, shared, Some(turnstile), ORDERS);
     let replies = serve_operator(rt, alloc, shared, seat, operator, turnstile);
-    let expected = are(replies.as_slice(), REPLIES);
+    let agree = are(replies.as_slice(), REPLIES);
     drop(replies);
-    expected
+    agree
 }
 
 // Commits and serves at once. Whether both orders are replied to.

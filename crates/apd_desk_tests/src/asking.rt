@@ -71,6 +71,16 @@ impl Asker {
         self.sends(question) && self.receives_each(question)
     }
 
+    /// Whether each question is answered so, one after another.
+    pub(crate) fn gets_answers(&self, clock: &impl Clock, questions: &[Question<'_>]) -> bool {
+        for question in questions {
+            if !self.gets_answer(clock, question) {
+                return false;
+            }
+        }
+        true
+    }
+
     fn sends(&self, question: &Question<'_>) -> bool {
         let to = (Ipv4Addr::LOCALHOST, question.port);
         for _time in 0..question.times {

@@ -235,7 +235,7 @@ pub(crate) fn share<L: Ledger>(core: Option<Core>, blank: Blank) -> Option<Share
     Some(Shared::new(core?, blank))
 }
 
-/// A new seat, of which nothing is said: the clauses of a shared core are long, and no test needs them.
+/// A new seat, of which nothing is said.
 pub(crate) fn new_seat<L: Ledger, W: Wait>(rt: &W, shared: &Shared<L>) -> Option<Seat<L>> {
     shared.seat(rt)
 }
@@ -288,7 +288,7 @@ pub(crate) fn finds_station<L: Ledger, W: Wait>(
     }
 }
 
-/// Commits until a stop, and says nothing of the flusher then: the worker's clauses are long, and no test needs them.
+/// Commits until a stop, and says nothing of the flusher then.
 pub(crate) fn commit<L: Ledger, W: Wait + time::Clock, D: Disk + Drop, G: Gate>(
     rt: &W,
     shared: &Shared<L>,
@@ -328,7 +328,7 @@ pub(crate) fn serve_alone<L: Ledger, W: Wait + time::Clock + Net, R: Radio, C: C
     seat
 }
 
-/// Serves a control port until a stop, and says nothing of its replies then.
+/// Serves a control port until a stop, and says nothing of its replies then. Gives both back.
 pub(crate) fn serve_port<L: Ledger, W: Wait + time::Clock + Net, P: Port, G: Gate>(
     rt: &W,
     alloc: Global,

@@ -28,9 +28,9 @@ fn serve<'a, L: Ledger, W: Wait + Clock + Net>(
 ) -> Option<bool> {
     let seat = new_seat(rt, shared)?;
     let replies = replies_to(rt, alloc, shared, seat, commands);
-    let expected = are(replies.as_slice(), texts);
+    let agree = are(replies.as_slice(), texts);
     drop(replies);
-    Some(expected)
+    Some(agree)
 }
 
 // Whether these are the replies to these commands on a core.

@@ -1,4 +1,4 @@
-//! A radio that receives its frames one after another, each once its test has come so far.
+//! The habit of a radio that receives its frames one after another, each once its test has come so far.
 use crate::common::{ASSOCIATION, authentication};
 use crate::habit::{Given, Habit};
 use std::alloc::{AllocError, Global};
@@ -117,7 +117,7 @@ fn put(bytes: &mut [u8], at: usize, byte: u8) {
     }
 }
 
-/// A radio that receives these frames at the BSSID that ends by this byte.
+/// The habit of a radio that receives these frames at the BSSID that ends by this byte.
 #[derive(Drop)]
 pub(crate) struct Fed<'a> {
     alloc: Global,

@@ -177,7 +177,7 @@ fn up_when_served<L: Ledger, W: Wait + time::Clock + Net>(
 }
 
 // Whether a station is to be installed, how many calls a radio passes, and whether it is up then.
-const UPS: &[(bool, u64, bool)] = &[
+const NOTED: &[(bool, u64, bool)] = &[
     (false, 0, true),
     (true, 0, false),
     (true, 1, false),
@@ -186,7 +186,7 @@ const UPS: &[(bool, u64, bool)] = &[
 
 #[test]
 fn whether_a_radio_is_up_is_noted(rt: HostRuntime) {
-    for (installs, calls, up) in UPS {
+    for (installs, calls, up) in NOTED {
         let blank = Blank::new(65_536);
         let is_up = up_when_served::<Brand, _>(&rt, rt.alloc(), blank, *installs, *calls);
         expect(&rt, (*calls, is_up), (*calls, Some(*up)));

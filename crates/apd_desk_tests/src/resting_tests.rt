@@ -99,7 +99,7 @@ impl<R: Net> Net for Counting<'_, R> {
     }
 }
 
-/// A radio that tells when it is taken down.
+/// The habit of a radio that tells when it is taken down.
 #[derive(Drop)]
 struct Telling<'a> {
     looks: &'a Looks,

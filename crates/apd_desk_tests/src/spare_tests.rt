@@ -161,12 +161,14 @@ type Told = (bool, [Option<Seen>; 2], usize, [usize; 2], [usize; 2]);
 impl Found {
     // All of it, to be compared and printed.
     fn tell(self) -> Told {
+        let sent = self.sent;
+        let associations = self.associations;
         (
             self.served,
             [self.first, self.other],
             self.downs,
-            self.sent,
-            self.associations,
+            sent,
+            associations,
         )
     }
 }
@@ -247,9 +249,9 @@ fn replies<L: Ledger, W: Wait + Clock + Net>(
     texts: &[&[u8]],
 ) -> bool {
     let replies = replies_to(rt, alloc, shared, seat, ASKED);
-    let expected = begin(replies.as_slice(), texts);
+    let agree = begin(replies.as_slice(), texts);
     drop(replies);
-    expected
+    agree
 }
 
 // Waits until it is noted of the first radio that it is up, or that it is down: it may be tried again still. Tells
@@ -498,7 +500,7 @@ fn find<L: Ledger + Send + Sync, W: Host>(
 const OTHER: Seen = (true, [Some(1), None], [Some(1), None]);
 
 // What is found where a spare serves: the station is installed there, and the answer behind that is the spare's, which
-// then serves another station.
+// then serves another station. The first list is what the slot wants, the second what is installed.
 const MENDED: Found = Found {
     served: true,
     first: Some((true, [Some(1), Some(2)], [Some(1), Some(2)])),

@@ -88,7 +88,7 @@ impl Gate for Log {
     }
 }
 
-/// A radio that receives these frames, one at each look, and tells all to stop at the look behind them.
+/// The habit of a radio that receives these frames, one at each look, and tells all to stop at the look behind them.
 #[derive(Drop)]
 pub(crate) struct Staged<'a, L: Ledger, W: Wait> {
     rt: &'a W,
@@ -131,7 +131,7 @@ impl<L: Ledger, W: Wait> Habit for Staged<'_, L, W> {
     }
 }
 
-/// A radio that meets want of memory at its first frame, so many times.
+/// The habit of a radio that meets want of memory at its first frame, so many times.
 #[derive(Drop)]
 pub(crate) struct Short {
     pub(crate) times: u64,
@@ -154,7 +154,7 @@ pub(crate) enum Trail {
     Fault,
 }
 
-/// A radio behind each frame of which its next poll gives something that becomes no entry.
+/// The habit of a radio behind each frame of which its next poll gives something that becomes no entry.
 #[derive(Drop)]
 pub(crate) struct Trailed {
     alloc: Global,
@@ -195,8 +195,8 @@ impl Habit for Trailed {
     }
 }
 
-/// A radio whose descriptor is told only after a rest behind each frame: as if its worker was held up between its last
-/// look and its sleep.
+/// The habit of a radio whose descriptor is told only after a rest behind each frame: as if its worker was held up
+/// between its last look and its sleep.
 #[derive(Drop)]
 pub(crate) struct Resting<'a, W: time::Clock> {
     clock: &'a W,

@@ -84,18 +84,9 @@ fn serve_commands<L: Ledger, W: Wait + Clock + Net>(
 // Has a new asker ask each question, until one gets no answer. Whether each is answered.
 fn ask_each(rt: &(impl Clock + Net), questions: &[Question<'_>]) -> bool {
     match Asker::new(rt) {
-        Some(asker) => gets_each(rt, &asker, questions),
+        Some(asker) => asker.gets_answers(rt, questions),
         None => false,
     }
-}
-
-fn gets_each(clock: &impl Clock, asker: &Asker, questions: &[Question<'_>]) -> bool {
-    for question in questions {
-        if !asker.gets_answer(clock, question) {
-            return false;
-        }
-    }
-    true
 }
 
 // Asks each question while all workers wait, and tells them to stop while they wait. Whether each was answered.
