@@ -1,11 +1,10 @@
 //! A storm: more frames at once than a socket of the usual room holds.
 use crate::expect::expect;
-use crate::serving_tests::{NEVER, disk, world};
+use crate::serving_tests::{NEVER, disk, serve_device};
 use crate::talk::{AUTHENTICATED, AUTHENTICATION, RADIO, free_ports};
-use apd_control_port::ControlPort;
 use apd_desk::NoGate;
-use apd_radio::{Datagrams, UdpSim};
-use apd_serve::{SystemClock, serve};
+use apd_radio::Datagrams;
+use apd_serve::SystemClock;
 use libc::net::{SO_RCVBUF, SOL_SOCKET, getsockopt};
 use log::Log;
 use std::alloc::Global;
@@ -109,11 +108,9 @@ where
 {
     let port = free_ports(rt, 1);
     let mut storm = storm_on(rt, alloc, port);
-    let control = ControlPort::open(rt, alloc, port).expect(rt, "a port of commands");
-    let radio = UdpSim::new(rt, alloc, port.wrapping_add(RADIO)).expect(rt, "a radio");
-    let world = world(rt, alloc, disk(rt, alloc, NEVER), radio);
+    let device = disk(rt, alloc, NEVER);
     let clock = SystemClock::new(rt);
-    let answer = serve(rt, alloc, world, control, clock, &NoGate, &mut storm);
+    let answer = serve_device(rt, alloc, port, device, clock, &NoGate, &mut storm);
     let frames = storm.frames;
     let answers = storm.answers;
     drop(storm);

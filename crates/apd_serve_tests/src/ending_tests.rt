@@ -2,7 +2,7 @@
 use crate::expect::expect;
 use crate::faulty_radio::Faulty;
 use crate::hearing::Hearing;
-use crate::serving_tests::{NEVER, Scene, disk, serves_on_stage, world};
+use crate::serving_tests::{NEVER, Scene, disk, radio, serve_at, serves_on_stage, world};
 use crate::short_radio::Short;
 use crate::stage::{Stage, StageClock};
 use crate::talk::{
@@ -10,12 +10,10 @@ use crate::talk::{
     free_ports,
 };
 use apd_base::{Addr, Bssid, Moment};
-use apd_control_port::ControlPort;
 use apd_core::Input;
 use apd_desk::NoGate;
 use apd_disk::{MemDisk, OnceDisk};
 use apd_radio::{Radio, UdpSim};
-use apd_serve::serve;
 use apd_world::{Step, World};
 use log::Log;
 use std::alloc::Global;
@@ -48,9 +46,9 @@ fn what_is_accepted_at_the_end_is_committed_and_answered(rt: HostRuntime) {
             Line::Gets(0, RADIO, Datagram::Hex(AUTHENTICATED)),
             Line::Gets(1, CONTROL, Datagram::Text("OK\n")),
         ],
-        calls: NEVER,
+        entries: 2,
     };
-    serves_on_stage(&rt, rt.alloc(), SCENE, true, 2);
+    serves_on_stage(&rt, rt.alloc(), SCENE, true);
 }
 
 /// A world whose radio lacks memory so often for a frame, and so often for a station.
@@ -62,17 +60,12 @@ fn short_world<'a>(
     stage: &'a Stage,
 ) -> World<OnceDisk<MemDisk>, Short<'a, UdpSim>> {
     let alloc = rt.alloc();
-    let radio = UdpSim::new(rt, alloc, port.wrapping_add(RADIO)).expect(rt, "a radio");
-    let short = Short::new(radio, frames, stations, stage);
+    let short = Short::new(radio(rt, alloc, port), frames, stations, stage);
     world(rt, alloc, disk(rt, alloc, NEVER), short)
 }
 
 /// Starts a world, and authenticates the first station.
-pub(crate) fn authenticate<R: Radio>(
-    rt: &impl Abort,
-    alloc: Global,
-    world: &mut World<OnceDisk<MemDisk>, R>,
-) {
+fn authenticate<R: Radio>(rt: &impl Abort, alloc: Global, world: &mut World<OnceDisk<MemDisk>, R>) {
     let frame = hex::decode(alloc, AUTHENTICATION).expect(rt, "a frame");
     let input = Input::Received(Bssid(Addr([2, 0, 0, 0, 0, 1])), frame.as_slice());
     let started = world.start().is_ok();
@@ -83,7 +76,7 @@ pub(crate) fn authenticate<R: Radio>(
 
 /// Ends the test where `serve` answers anything else than one entry, while the worker of the radio submits this frame
 /// when the one that commits has ended. Tells how many lines were said, of which the last is said afterwards.
-pub(crate) fn serve_to_the_end<
+fn serve_to_the_end<
     R: Net + Wait + Threads + time::Clock + AllocGlobal + Log + Sync + Abort,
     S: Radio + Send,
 >(
@@ -101,14 +94,27 @@ where
     let alloc = rt.alloc();
     let lines = [Line::Sends(0, RADIO, Datagram::Hex(frame)), Line::Asked(2)];
     let mut talk = Talk::new(rt, alloc, port, &lines, stage);
-    let control = ControlPort::open(rt, alloc, port).expect(rt, "a port of commands");
     let clock = StageClock { rt, stage };
-    let answer = serve(rt, alloc, world, control, clock, &NoGate, &mut talk);
+    let answer = serve_at(rt, alloc, port, world, clock, &NoGate, &mut talk);
     talk.say(&[after]);
     let said = talk.said_count();
     drop(talk);
     expect(rt, answer, Ok(1));
     said
+}
+
+/// The same of a world in which the first station was authenticated, and the frame asks to associate it.
+pub(crate) fn associate_to_the_end<
+    R: Net + Wait + Threads + time::Clock + AllocGlobal + Log + Sync + Abort,
+    S: Radio + Send,
+>(rt: &R, port: u16, world: World<OnceDisk<MemDisk>, S>, stage: &Stage, after: Line) -> usize
+where
+    R::Stream: Send + Sync,
+    R::Listener: Send + Sync,
+{
+    let mut world = world;
+    authenticate(rt, rt.alloc(), &mut world);
+    serve_to_the_end(rt, port, world, stage, ASSOCIATION, after)
 }
 
 #[test]
@@ -125,10 +131,9 @@ fn an_answer_that_lacked_memory_is_given_at_the_end(rt: HostRuntime) {
 fn a_station_that_lacked_memory_is_installed_at_the_end(rt: HostRuntime) {
     let stage = Stage::new(true);
     let port = free_ports(&rt, 1);
-    let mut world = short_world(&rt, port, 0, 3, &stage);
-    authenticate(&rt, rt.alloc(), &mut world);
+    let world = short_world(&rt, port, 0, 3, &stage);
     let after = Line::Gets(0, RADIO, Datagram::Hex(ASSOCIATED));
-    let said = serve_to_the_end(&rt, port, world, &stage, ASSOCIATION, after);
+    let said = associate_to_the_end(&rt, port, world, &stage, after);
     expect(&rt, (said, stage.holes()), (3, 0));
 }
 
@@ -136,11 +141,9 @@ fn a_station_that_lacked_memory_is_installed_at_the_end(rt: HostRuntime) {
 fn nothing_is_sent_behind_a_station_that_lacks_memory(rt: HostRuntime) {
     let stage = Stage::new(true);
     let port = free_ports(&rt, 1);
-    let mut world = short_world(&rt, port, 0, LONG, &stage);
-    authenticate(&rt, rt.alloc(), &mut world);
     let hearing = Hearing::new(rt, rt.alloc());
-    let after = Line::GetsNothing(0);
-    let said = serve_to_the_end(&hearing, port, world, &stage, ASSOCIATION, after);
+    let world = short_world(&rt, port, 0, LONG, &stage);
+    let said = associate_to_the_end(&hearing, port, world, &stage, Line::GetsNothing(0));
     expect(&rt, stage.holes(), 0);
     // A worker that is still there to give it tries until it is installed.
     let wanted = if said == 3 { NOT_HANDED_OUT } else { "" };
@@ -154,13 +157,8 @@ fn faulty_world(
     faults: u32,
 ) -> World<OnceDisk<MemDisk>, Faulty<UdpSim>> {
     let alloc = rt.alloc();
-    let radio = UdpSim::new(rt, alloc, port.wrapping_add(RADIO)).expect(rt, "a radio");
-    world(
-        rt,
-        alloc,
-        disk(rt, alloc, NEVER),
-        Faulty::new(radio, faults),
-    )
+    let faulty = Faulty::new(radio(rt, alloc, port), faults);
+    world(rt, alloc, disk(rt, alloc, NEVER), faulty)
 }
 
 #[test]
@@ -169,10 +167,9 @@ fn what_waits_behind_a_driver_fault_is_sent_at_the_end(rt: HostRuntime) {
     for faults in [1, 3] {
         let stage = Stage::new(true);
         let port = free_ports(&rt, 1);
-        let mut world = faulty_world(&rt, port, faults);
-        authenticate(&rt, rt.alloc(), &mut world);
+        let world = faulty_world(&rt, port, faults);
         let after = Line::Gets(0, RADIO, Datagram::Hex(ASSOCIATED));
-        let said = serve_to_the_end(&rt, port, world, &stage, ASSOCIATION, after);
+        let said = associate_to_the_end(&rt, port, world, &stage, after);
         expect(&rt, (faults, said), (faults, 3));
     }
 }
@@ -182,8 +179,7 @@ fn a_driver_that_fails_on_is_given_up_at_the_end(rt: HostRuntime) {
     // The out itself, and all three tries.
     let stage = Stage::new(true);
     let port = free_ports(&rt, 1);
-    let mut world = faulty_world(&rt, port, 4);
-    authenticate(&rt, rt.alloc(), &mut world);
-    let said = serve_to_the_end(&rt, port, world, &stage, ASSOCIATION, Line::GetsNothing(0));
+    let world = faulty_world(&rt, port, 4);
+    let said = associate_to_the_end(&rt, port, world, &stage, Line::GetsNothing(0));
     expect(&rt, said, 3);
 }

@@ -2,19 +2,13 @@
 ghost use Rattle.std.specs.Prelude.{⊤};
 
 use crate::expect::expect;
-use crate::serving_tests::world;
-use crate::stage::Stage;
+use crate::files::formatted;
+use crate::serving_tests::serves_over;
 use crate::talk::{
-    ASSOCIATED, ASSOCIATION, AUTHENTICATED, AUTHENTICATION, CONTROL, Datagram, Line, RADIO, Talk,
-    free_ports,
+    ASSOCIATED, ASSOCIATION, AUTHENTICATED, AUTHENTICATION, CONTROL, Datagram, Line, RADIO,
 };
-use apd_control_port::ControlPort;
-use apd_desk::NoGate;
-use apd_disk::{DeviceFile, Disk, FileDisk, Torn};
+use apd_disk::{DeviceFile, FileDisk, Torn};
 use apd_double::{Fault, MemoryFile};
-use apd_radio::UdpSim;
-use apd_serve::{SystemClock, serve};
-use apd_store::format;
 use log::Log;
 use std::alloc::Global;
 use std::net::Net;
@@ -58,47 +52,14 @@ impl<W: Wait> DeviceFile for Lent<'_, '_, W> {
     }
 }
 
-/// The device of a new store.
-fn formatted<D: Disk + Drop>(rt: &impl Abort, alloc: Global, disk: D) -> D {
-    let store = format(alloc, disk).ok();
-    store.expect(rt, "a new store").into_device()
-}
-
 /// A file with a new store, asked for nothing yet.
 fn new_file(rt: &impl Abort, alloc: Global) -> MemoryFile {
     let blank = FileDisk::over(MemoryFile::new(alloc, LENGTH)).expect(rt, "a file with a length");
     formatted(rt, alloc, blank).into_file().cut(Torn::Old)
 }
 
-/// Serves over a file while these lines are said. Ends the test where so many entries aren't what it answers, or not all
-/// of them are said.
-fn serves_over<R: Net + Wait + Threads + time::Clock + Log + Sync + Abort>(
-    rt: &R,
-    alloc: Global,
-    file: &Mutex<MemoryFile>,
-    lines: &[Line],
-    entries: u64,
-)
-where
-    R::Stream: Send + Sync,
-    R::Listener: Send + Sync,
-{
-    let all = (Ok(entries), lines.len());
-    let stage = Stage::new(false);
-    let port = free_ports(rt, 1);
-    let mut talk = Talk::new(rt, alloc, port, lines, &stage);
-    let control = ControlPort::open(rt, alloc, port).expect(rt, "a port of commands");
-    let radio = UdpSim::new(rt, alloc, port.wrapping_add(RADIO)).expect(rt, "a radio");
-    let disk = FileDisk::over(Lent { rt, file }).expect(rt, "a file with a length");
-    let world = world(rt, alloc, disk, radio);
-    let clock = SystemClock::new(rt);
-    let answer = serve(rt, alloc, world, control, clock, &NoGate, &mut talk);
-    let said = talk.said_count();
-    drop(talk);
-    expect(rt, (answer, said), all);
-}
-
-/// The same, and the file then.
+/// Serves over a file while these lines are said, and gives it back. Ends the test where so many entries aren't what it
+/// answers, or not all of them are said.
 fn file_after<R: Net + Wait + Threads + time::Clock + Log + Sync + Abort>(
     rt: &R,
     alloc: Global,
@@ -111,7 +72,8 @@ where
     R::Listener: Send + Sync,
 {
     let file = Mutex::new(file);
-    serves_over(rt, alloc, &file, lines, entries);
+    let lent = FileDisk::over(Lent { rt, file: &file }).expect(rt, "a file with a length");
+    serves_over(rt, alloc, lent, lines, entries);
     file.into_inner()
 }
 

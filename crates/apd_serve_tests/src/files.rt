@@ -1,17 +1,28 @@
 //! The files of a test.
 use crate::expect::expect;
-use apd_disk::FileDisk;
+use apd_disk::{Disk, FileDisk};
 use apd_store::format;
+use std::alloc::Global;
 use std::fs::{self, File};
 use std::process::Abort;
 use std::rt::Files;
+
+/// The device of a new store.
+pub(crate) fn formatted<D: Disk + Drop>(rt: &impl Abort, alloc: Global, disk: D) -> D {
+    let store = format(alloc, disk).ok();
+    store.expect(rt, "a new store").into_device()
+}
 
 /// Makes the file of a name a new store.
 pub(crate) fn new_store(rt: &(impl Files<File = File> + AllocGlobal + Abort), name: &str) {
     let _ = fs::remove_file(rt, name);
     let disk = FileDisk::create(rt, name).expect(rt, "a new file");
-    let store = format(rt.alloc(), disk).ok();
-    drop(store.expect(rt, "a new store"));
+    drop(formatted(rt, rt.alloc(), disk));
+}
+
+/// What the file of a name holds.
+pub(crate) fn read(rt: &(impl Files<File = File> + AllocGlobal + Abort), name: &str) -> Vec<u8> {
+    fs::read(rt, name).expect(rt, "a file to read")
 }
 
 /// Ends the test where the file of a name holds anything else.
@@ -20,7 +31,7 @@ pub(crate) fn expect_file(
     name: &str,
     wanted: &[u8],
 ) {
-    let found = fs::read(rt, name).expect(rt, "a file to read");
+    let found = read(rt, name);
     expect(rt, found.as_slice(), wanted);
 }
 
@@ -30,7 +41,7 @@ pub(crate) fn expect_kept(
     name: &str,
     before: &[u8],
 ) {
-    let found = fs::read(rt, name).expect(rt, "a file to read");
+    let found = read(rt, name);
     assert!(rt; found.as_slice() == before);
 }
 

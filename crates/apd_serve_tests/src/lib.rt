@@ -7,6 +7,8 @@ mod burst_tests;
 #[cfg(test)]
 mod clock_tests;
 #[cfg(test)]
+mod configurations;
+#[cfg(test)]
 mod driver_tests;
 #[cfg(test)]
 mod ending_tests;

@@ -1,8 +1,9 @@
+use crate::configurations::{alone, built_in, file_of};
 use crate::expect::expect;
-use crate::files::{expect_file, expect_kept, new_store, remove_all, write};
+use crate::files::{expect_file, expect_kept, new_store, read, remove_all, write};
 use crate::running_tests::{CONF, refuses, runs_with};
 use crate::talk::free_ports;
-use apd_conf::{Conf, Confs, FileName};
+use apd_conf::Confs;
 use apd_disk::FileDisk;
 use log::Log;
 use std::fs::{self, File};
@@ -27,7 +28,7 @@ where
     new_store(rt, store);
     let recording = format!(in rt.alloc(); "{prefix}.0").expect(rt, "memory");
     let wanted = format!(in rt.alloc(); "cannot read {prefix}.0").expect(rt, "memory");
-    let before = fs::read(rt, recording.as_str()).expect(rt, "a file");
+    let before = read(rt, recording.as_str());
     let port = free_ports(rt, 1);
     refuses(
         rt,
@@ -80,13 +81,10 @@ fn no_recording_is_made_over_a_configuration(rt: HostRuntime) {
 
 /// The built-in configuration with the list file of this name.
 fn confs_with_list(rt: &(impl AllocGlobal + Abort), name: &str) -> Confs {
-    assert!(rt; FileName::is_name(name));
-    let file = FileName::new(name, rt.alloc()).expect(rt, "memory");
-    let mut conf = Conf::built_in(rt.alloc()).expect(rt, "memory");
+    let file = file_of(rt, rt.alloc(), name);
+    let mut conf = built_in(rt, rt.alloc());
     conf.deny_mac_file = Some(file);
-    let mut list = Vec::new(rt.alloc());
-    list.push(conf).expect(rt, "memory");
-    Confs::new(list).expect(rt, "a configuration")
+    alone(rt, rt.alloc(), conf)
 }
 
 #[test]

@@ -1,18 +1,18 @@
+use crate::configurations::{all_of, built_in, conf_of};
 use crate::expect::expect;
-use crate::files::{expect_file, expect_kept, new_store, remove_all, write};
+use crate::files::{expect_file, expect_kept, new_store, read, remove_all, write};
 use crate::stage::Stage;
 use crate::talk::{
     ASSOCIATED, ASSOCIATION, AUTHENTICATED, AUTHENTICATION, CONTROL, Datagram, Line, RADIO,
     SECOND_AUTHENTICATED, SECOND_AUTHENTICATION, SECOND_RADIO, Talk, free_ports,
 };
-use apd_base::{Addr, Bssid};
-use apd_conf::{Conf, Confs, InterfaceName};
+use apd_conf::Confs;
 use apd_disk::FileDisk;
 use apd_serve::{RunFault, run};
 use apd_site::Site;
 use apd_store::recover;
 use log::Log;
-use std::fs::{self, File};
+use std::fs::File;
 use std::io::{self, Read};
 use std::net::{Ipv4Addr, Net, UdpSocket};
 use std::process::Abort;
@@ -43,26 +43,19 @@ const FIRST_RECORDING: &str =
 const SECOND_RECORDING: &str =
     "down\ndown\nrx b00000000200000000020200000000aa0200000000021000000001000000\ntx b00000000200000000aa0200000000020200000000020000000002000000\ndown\n";
 
-/// A second configuration.
-fn second(rt: &(impl AllocGlobal + Abort)) -> Conf {
-    let mut conf = Conf::built_in(rt.alloc()).expect(rt, "memory");
-    conf.interface = InterfaceName::new("wlan1", rt.alloc()).expect(rt, "memory");
-    conf.bssid = Bssid(Addr([2, 0, 0, 0, 0, 2]));
-    conf
-}
-
 /// The built-in configuration, and the second one where there are to be more radios than one.
 pub(crate) fn confs(rt: &(impl AllocGlobal + Abort), radios: u16) -> Confs {
-    let built_in = Conf::built_in(rt.alloc()).expect(rt, "memory");
-    let mut list = vec![in rt.alloc(); built_in].expect(rt, "memory");
+    let first = built_in(rt, rt.alloc());
+    let mut list = vec![in rt.alloc(); first].expect(rt, "memory");
     if radios > 1 {
-        list.push(second(rt)).expect(rt, "memory");
+        let second = conf_of(rt, rt.alloc(), "wlan1", 2);
+        list.push(second).expect(rt, "memory");
     }
-    Confs::new(list).expect(rt, "configurations")
+    all_of(rt, list)
 }
 
 // A site in which no device fault ends a run.
-fn site<'a>(
+pub(crate) fn site<'a>(
     store: &'a str,
     port: u16,
     drivers: Option<u16>,
@@ -103,34 +96,6 @@ where
     run(rt, confs, &site, reader)
 }
 
-/// The same where it is logged what becomes of stations and lists, and nothing is recorded.
-pub(crate) fn run_telling<
-    R: Files<File = File> + Net + Wait + Threads + Clock + AllocGlobal + Log + Sync,
-    B: Read + Drop,
->(rt: &R, store: &str, confs: Confs, port: u16, reader: B) -> Result<u64, RunFault>
-where
-    R::Dir: Send + Sync,
-    R::Stream: Send + Sync,
-    R::Listener: Send + Sync,
-{
-    let site = site(store, port, None, None, &[], true);
-    run(rt, confs, &site, reader)
-}
-
-/// The same where the radios' drivers have the ports from this one on, and nothing is logged beside.
-pub(crate) fn run_driven<
-    R: Files<File = File> + Net + Wait + Threads + Clock + AllocGlobal + Log + Sync,
-    B: Read + Drop,
->(rt: &R, store: &str, confs: Confs, port: u16, drivers: u16, reader: B) -> Result<u64, RunFault>
-where
-    R::Dir: Send + Sync,
-    R::Stream: Send + Sync,
-    R::Listener: Send + Sync,
-{
-    let site = site(store, port, Some(drivers), None, &[], false);
-    run(rt, confs, &site, reader)
-}
-
 /// Ends the test where `run` answers anything else: the number of entries, or the fault, as text.
 pub(crate) fn expect_answer(
     rt: &(impl AllocGlobal + Abort),
@@ -143,6 +108,23 @@ pub(crate) fn expect_answer(
     };
     let text = text.expect(rt, "memory");
     expect(rt, text.as_str(), wanted);
+}
+
+/// Ends the test where `run` of a site answers anything else of a talk, or not so many of its lines are said.
+pub(crate) fn runs_talk<
+    R: Files<File = File> + Net + Wait + Threads + Clock + AllocGlobal + Log + Sync + Abort,
+>(rt: &R, confs: Confs, site: &Site<'_>, talk: Talk<'_>, lines: usize, wanted: &str)
+where
+    R::Dir: Send + Sync,
+    R::Stream: Send + Sync,
+    R::Listener: Send + Sync,
+{
+    let mut talk = talk;
+    let answer = run(rt, confs, site, &mut talk);
+    let said = talk.said_count();
+    drop(talk);
+    expect_answer(rt, answer, wanted);
+    expect(rt, said, lines);
 }
 
 /// Ends the test where `run` of these configurations answers anything else of a talk, or not all of its lines are said.
@@ -158,12 +140,9 @@ where
     let stage = Stage::new(false);
     let written = lines.len();
     let port = free_ports(rt, 8);
-    let mut talk = Talk::new(rt, rt.alloc(), port, lines, &stage);
-    let answer = run_at(rt, store, recordings, confs, port, &[], &mut talk);
-    let said = talk.said_count();
-    drop(talk);
-    expect_answer(rt, answer, wanted);
-    expect(rt, said, written);
+    let site = site(store, port, None, recordings, &[], false);
+    let talk = Talk::new(rt, rt.alloc(), port, lines, &stage);
+    runs_talk(rt, confs, &site, talk, written, wanted);
     port
 }
 
@@ -281,7 +260,7 @@ where
 fn a_refusal_leaves_the_store_as_it_was(rt: HostRuntime) {
     let name = "refused_store";
     new_store(&rt, name);
-    let before = fs::read(&rt, name).expect(&rt, "a store");
+    let before = read(&rt, name);
     let port = free_ports(&rt, 1);
     for taken in [port, port.wrapping_add(RADIO)] {
         let socket = UdpSocket::bind(&rt, (Ipv4Addr::LOCALHOST, taken)).expect(&rt, "a socket");

@@ -1,22 +1,25 @@
+use crate::configurations::{alone, built_in};
 use crate::expect::expect;
+use crate::files::formatted;
 use crate::hearing::Hearing;
 use crate::stage::{HeldGate, Stage, StageClock};
 use crate::talk::{
     ASSOCIATED, ASSOCIATION, AUTHENTICATED, AUTHENTICATION, CONTROL, DATA, DISASSOCIATED, Datagram,
     Line, OTHER_AUTHENTICATED, OTHER_AUTHENTICATION, RADIO, Talk, free_ports,
 };
-use apd_base::Moment;
-use apd_conf::{AddressList, Conf, Confs, read_list};
+use apd_base::{Bssid, Moment};
+use apd_conf::{AddressList, Conf, read_list};
 use apd_control_port::ControlPort;
 use apd_desk::{Clock, Gate, NoGate};
 use apd_disk::{Disk, MemDisk, OnceDisk};
 use apd_radio::{Radio, UdpSim};
 use apd_serve::{ServeFault, SystemClock, serve};
 use apd_slot::Slot;
-use apd_store::{StoreFault, format};
+use apd_store::StoreFault;
 use apd_world::{World, restart};
 use log::Log;
 use std::alloc::Global;
+use std::io::Read;
 use std::net::Net;
 use std::process::Abort;
 use std::sync::Wait;
@@ -51,7 +54,7 @@ pub(crate) const STARTED: u64 = 6;
 /// The built-in configuration, with a station that is denied.
 fn conf(rt: &impl Abort, alloc: Global) -> Conf {
     let denied = read_list(alloc, DENIED.as_bytes()).expect(rt, "a list");
-    let mut conf = Conf::built_in(alloc).expect(rt, "memory");
+    let mut conf = built_in(rt, alloc);
     conf.set_lists(AddressList::new(alloc), denied);
     conf
 }
@@ -60,8 +63,12 @@ fn conf(rt: &impl Abort, alloc: Global) -> Conf {
 pub(crate) fn disk(rt: &impl Abort, alloc: Global, calls: u64) -> OnceDisk<MemDisk> {
     let bytes = vec![in alloc; 0u8; LENGTH].expect(rt, "memory");
     let disk = MemDisk::new(alloc, bytes).expect(rt, "memory");
-    let store = format(alloc, disk).ok().expect(rt, "a store");
-    OnceDisk::new(store.into_device(), calls)
+    OnceDisk::new(formatted(rt, alloc, disk), calls)
+}
+
+/// One slot, with this radio.
+fn slots<R: Radio>(rt: &impl Abort, alloc: Global, bssid: Bssid, radio: R) -> Vec<Slot<R>> {
+    vec![in alloc; Slot::new(alloc, radio, bssid)].expect(rt, "memory")
 }
 
 /// The world of the one configuration over this disk, with this radio.
@@ -72,49 +79,116 @@ pub(crate) fn world<D: Disk + Drop, R: Radio>(
     radio: R,
 ) -> World<D, R> {
     let conf = conf(rt, alloc);
-    let mut slots = Vec::new(alloc);
-    slots
-        .push(Slot::new(alloc, radio, conf.bssid))
-        .expect(rt, "memory");
-    let mut list = Vec::new(alloc);
-    list.push(conf).expect(rt, "memory");
-    let confs = Confs::new(list).expect(rt, "a configuration");
+    let slots = slots(rt, alloc, conf.bssid, radio);
+    let confs = alone(rt, alloc, conf);
     let world = restart(alloc, disk, confs, slots, Moment(0)).ok();
     world.expect(rt, "what the disk holds is recovered")
 }
 
-/// What is said while it serves and when it has ended. Its device fails the call after so many.
+/// A radio whose port is the first behind this one.
+pub(crate) fn radio(rt: &(impl Net + Abort), alloc: Global, port: u16) -> UdpSim {
+    UdpSim::new(rt, alloc, port.wrapping_add(RADIO)).expect(rt, "a radio")
+}
+
+/// What `serve` answers of a world, whose commands come to this port, once the input ends.
+pub(crate) fn serve_at<
+    R: Net + Wait + Threads + time::Clock + Log + Sync + Abort,
+    D: Disk + Drop + Send,
+    S: Radio + Send,
+    C: Clock + Drop + Sync,
+    G: Gate + Sync,
+    B: Read + Drop,
+>(
+    rt: &R,
+    alloc: Global,
+    port: u16,
+    world: World<D, S>,
+    clock: C,
+    gate: &G,
+    input: B,
+) -> Result<u64, ServeFault>
+where
+    R::Stream: Send + Sync,
+    R::Listener: Send + Sync,
+{
+    let control = ControlPort::open(rt, alloc, port).expect(rt, "a port of commands");
+    serve(rt, alloc, world, control, clock, gate, input)
+}
+
+/// The same of the world over a device, with the radio behind this port.
+pub(crate) fn serve_device<
+    R: Net + Wait + Threads + time::Clock + Log + Sync + Abort,
+    D: Disk + Drop + Send,
+    C: Clock + Drop + Sync,
+    G: Gate + Sync,
+    B: Read + Drop,
+>(
+    rt: &R,
+    alloc: Global,
+    port: u16,
+    device: D,
+    clock: C,
+    gate: &G,
+    input: B,
+) -> Result<u64, ServeFault>
+where
+    R::Stream: Send + Sync,
+    R::Listener: Send + Sync,
+{
+    let world = world(rt, alloc, device, radio(rt, alloc, port));
+    serve_at(rt, alloc, port, world, clock, gate, input)
+}
+
+/// What is said while it serves and when it has ended, and of how many entries that is.
 #[derive(Clone, Copy)]
 pub(crate) struct Scene<'a> {
     pub(crate) lines: &'a [Line],
     pub(crate) after: &'a [Line],
-    pub(crate) calls: u64,
+    pub(crate) entries: u64,
 }
 
-/// Ends the test where `serve` answers anything else in a scene than so many entries, or not all of its lines are said.
+/// Ends the test where `serve` over a device answers anything else in a scene than its entries, or not all of its lines
+/// are said.
 fn serves_scene<
     R: Net + Wait + Threads + time::Clock + Log + Sync + Abort,
+    D: Disk + Drop + Send,
     C: Clock + Drop + Sync,
     G: Gate + Sync,
->(rt: &R, alloc: Global, scene: Scene<'_>, stage: &Stage, clock: C, gate: &G, entries: u64)
+>(rt: &R, alloc: Global, device: D, scene: Scene<'_>, stage: &Stage, clock: C, gate: &G)
 where
     R::Stream: Send + Sync,
     R::Listener: Send + Sync,
 {
     let port = free_ports(rt, 1);
     let mut talk = Talk::new(rt, alloc, port, scene.lines, stage);
-    let control = ControlPort::open(rt, alloc, port).expect(rt, "a port of commands");
-    let radio = UdpSim::new(rt, alloc, port.wrapping_add(RADIO)).expect(rt, "a radio");
-    let world = world(rt, alloc, disk(rt, alloc, scene.calls), radio);
-    let answer = serve(rt, alloc, world, control, clock, gate, &mut talk);
+    let answer = serve_device(rt, alloc, port, device, clock, gate, &mut talk);
     talk.say(scene.after);
     let said = talk.said_count();
     drop(talk);
     let written = scene.lines.len().saturating_add(scene.after.len());
-    expect(rt, (answer, said), (Ok(entries), written));
+    expect(rt, (answer, said), (Ok(scene.entries), written));
 }
 
-/// The same, where only lines are said, the device fails the call after so many, and nothing is held.
+/// The same, where only lines are said, and nothing is held.
+pub(crate) fn serves_over<
+    R: Net + Wait + Threads + time::Clock + Log + Sync + Abort,
+    D: Disk + Drop + Send,
+>(rt: &R, alloc: Global, device: D, lines: &[Line], entries: u64)
+where
+    R::Stream: Send + Sync,
+    R::Listener: Send + Sync,
+{
+    let scene = Scene {
+        lines,
+        after: &[],
+        entries,
+    };
+    let stage = Stage::new(false);
+    let clock = SystemClock::new(rt);
+    serves_scene(rt, alloc, device, scene, &stage, clock, &NoGate);
+}
+
+/// The same over a new store in memory, whose device fails the call after so many.
 fn serves_talk<R: Net + Wait + Threads + time::Clock + Log + Sync + Abort>(
     rt: &R,
     alloc: Global,
@@ -126,14 +200,7 @@ where
     R::Stream: Send + Sync,
     R::Listener: Send + Sync,
 {
-    let scene = Scene {
-        lines,
-        after: &[],
-        calls,
-    };
-    let stage = Stage::new(false);
-    let clock = SystemClock::new(rt);
-    serves_scene(rt, alloc, scene, &stage, clock, &NoGate, entries);
+    serves_over(rt, alloc, disk(rt, alloc, calls), lines, entries);
 }
 
 #[test]
@@ -227,19 +294,19 @@ fn an_answer_waits_for_its_commit_and_the_start_for_nothing(rt: HostRuntime) {
     let scene = Scene {
         lines: LINES,
         after: &[],
-        calls: NEVER,
+        entries: 2,
     };
+    let device = disk(&rt, rt.alloc(), NEVER);
     let clock = SystemClock::new(&rt);
-    serves_scene(&rt, rt.alloc(), scene, &stage, clock, &gate, 2);
+    serves_scene(&rt, rt.alloc(), device, scene, &stage, clock, &gate);
 }
 
-/// The same in a scene by the stage's clock.
+/// Ends the test where anything else comes of a scene by the stage's clock.
 pub(crate) fn serves_on_stage<R: Net + Wait + Threads + time::Clock + Log + Sync + Abort>(
     rt: &R,
     alloc: Global,
     scene: Scene<'_>,
     held: bool,
-    entries: u64,
 )
 where
     R::Stream: Send + Sync,
@@ -247,7 +314,8 @@ where
 {
     let stage = Stage::new(held);
     let clock = StageClock { rt, stage: &stage };
-    serves_scene(rt, alloc, scene, &stage, clock, &NoGate, entries);
+    let device = disk(rt, alloc, NEVER);
+    serves_scene(rt, alloc, device, scene, &stage, clock, &NoGate);
 }
 
 #[test]
@@ -264,9 +332,9 @@ fn a_silent_station_goes(rt: HostRuntime) {
             Line::Gets(0, RADIO, Datagram::Hex(DISASSOCIATED)),
         ],
         after: &[],
-        calls: NEVER,
+        entries: 3,
     };
-    serves_on_stage(&rt, rt.alloc(), SCENE, false, 3);
+    serves_on_stage(&rt, rt.alloc(), SCENE, false);
 }
 
 #[test]
@@ -288,9 +356,9 @@ fn a_station_that_was_heard_stays(rt: HostRuntime) {
             Line::Gets(1, CONTROL, Datagram::Text(HEARD)),
         ],
         after: &[],
-        calls: NEVER,
+        entries: 3,
     };
-    serves_on_stage(&rt, rt.alloc(), SCENE, false, 3);
+    serves_on_stage(&rt, rt.alloc(), SCENE, false);
 }
 
 #[test]

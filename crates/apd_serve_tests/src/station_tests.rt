@@ -1,8 +1,7 @@
 //! What is told of stations and of lists.
-use crate::expect::expect;
 use crate::files::{new_store, remove_all};
 use crate::hearing::Hearing;
-use crate::running_tests::{confs, expect_answer, run_telling};
+use crate::running_tests::{confs, runs_talk, site};
 use crate::stage::Stage;
 use crate::talk::{
     ASSOCIATED, ASSOCIATION, AUTHENTICATED, AUTHENTICATION, CONTROL, Datagram, Line,
@@ -44,12 +43,9 @@ where
     let stage = Stage::new(false);
     let written = lines.len();
     let port = free_ports(&rt, 2);
-    let mut talk = Talk::new(&rt, alloc, port, lines, &stage);
-    let answer = run_telling(&hearing, name, confs(&rt, 2), port, &mut talk);
-    let said = talk.said_count();
-    drop(talk);
-    expect_answer(&rt, answer, entries);
-    expect(&rt, said, written);
+    let site = site(name, port, None, None, &[], true);
+    let talk = Talk::new(&rt, alloc, port, lines, &stage);
+    runs_talk(&hearing, confs(&rt, 2), &site, talk, written, entries);
     let wanted = format!(in alloc;
         "[INFO  apd] serves commands on port {port}, wlan0 on port {}, wlan1 on port {}; stations recovered: 0\n{wanted}[INFO  apd] entries {entries}\n",
         port.wrapping_add(1),

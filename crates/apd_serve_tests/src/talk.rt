@@ -104,7 +104,7 @@ pub(crate) enum Line {
 #[derive(Drop)]
 pub(crate) struct Talk<'a> {
     alloc: Global,
-    senders: [UdpSocket; 2],
+    senders: (UdpSocket, UdpSocket),
     port: u16,
     lines: &'a [Line],
     stage: &'a Stage,
@@ -159,7 +159,7 @@ impl<'a> Talk<'a> {
         let second = sender(rt).expect(rt, "a socket");
         Talk {
             alloc,
-            senders: [first, second],
+            senders: (first, second),
             port,
             lines,
             stage,
@@ -168,9 +168,18 @@ impl<'a> Talk<'a> {
         }
     }
 
+    // The socket of a sender.
+    fn socket(&self, sender: usize) -> Option<&UdpSocket> {
+        match sender {
+            0 => Some(&self.senders.0),
+            1 => Some(&self.senders.1),
+            _ => None,
+        }
+    }
+
     /// The port of a sender.
     pub(crate) fn port_of(&self, rt: &impl Abort, sender: usize) -> u16 {
-        let socket = self.senders.get(sender).expect(rt, "a sender");
+        let socket = self.socket(sender).expect(rt, "a sender");
         socket
             .local_addr()
             .expect(rt, "the address of a socket")
@@ -184,7 +193,7 @@ impl<'a> Talk<'a> {
 
     // What a sender gets in this time, in milliseconds, from a port of the access point.
     fn receive(&self, sender: usize, time: u64) -> io::Result<Option<(u16, Vec<u8>)>> {
-        let Some(socket) = self.senders.get(sender) else {
+        let Some(socket) = self.socket(sender) else {
             return Err(ErrorKind::InvalidInput.into());
         };
         socket.set_read_timeout(Some(Duration::from_millis(time)))?;
@@ -198,7 +207,7 @@ impl<'a> Talk<'a> {
 
     // Whether a sender sent this to a port.
     fn sends(&self, sender: usize, port: u16, datagram: &Datagram) -> io::Result<bool> {
-        let Some(socket) = self.senders.get(sender) else {
+        let Some(socket) = self.socket(sender) else {
             return Ok(false);
         };
         let port = self.port.wrapping_add(port);

@@ -1,10 +1,10 @@
+use crate::configurations::{all_of, alone, built_in, conf_of, file_of};
 use crate::expect::expect;
 use crate::files::{new_store, remove_all};
 use crate::hearing::Hearing;
 use crate::running_tests::{confs, run_at, runs_with};
 use crate::talk::{CONTROL, Datagram, Line, free_ports};
-use apd_base::{Addr, Bssid};
-use apd_conf::{Conf, Confs, FileName, InterfaceName};
+use apd_conf::Confs;
 use log::Log;
 use std::alloc::Global;
 use std::fs::{self, File};
@@ -42,26 +42,16 @@ fn the_start_and_the_entries_are_told(rt: HostRuntime) {
     remove_all(&rt, &[name]);
 }
 
-/// A configuration whose interface has this name, and whose BSSID ends in this number.
-fn conf(rt: &impl Abort, alloc: Global, interface: &str, number: u8) -> Conf {
-    assert!(rt; InterfaceName::is_name(interface.as_bytes()));
-    let name = InterfaceName::new(interface, alloc).expect(rt, "memory");
-    let mut conf = Conf::built_in(alloc).expect(rt, "memory");
-    conf.interface = name;
-    conf.bssid = Bssid(Addr([2, 0, 0, 0, 0, number]));
-    conf
-}
-
 /// The configurations of these interfaces, whose BSSIDs end in their places from this number on.
 fn numbered_confs(rt: &impl Abort, alloc: Global, interfaces: &[&str], first: u8) -> Confs {
     let mut list = Vec::new(alloc);
     let mut number = first;
     for interface in interfaces {
-        list.push(conf(rt, alloc, interface, number))
-            .expect(rt, "memory");
+        let conf = conf_of(rt, alloc, interface, number);
+        list.push(conf).expect(rt, "memory");
         number = number.wrapping_add(1);
     }
-    Confs::new(list).expect(rt, "configurations")
+    all_of(rt, list)
 }
 
 #[test]
@@ -83,13 +73,10 @@ fn a_ninth_bssid_of_a_store_is_told(rt: HostRuntime) {
 
 /// The built-in configuration with the list file of this name.
 fn confs_with_list(rt: &impl Abort, alloc: Global, name: &str) -> Confs {
-    assert!(rt; FileName::is_name(name));
-    let file = FileName::new(name, alloc).expect(rt, "memory");
-    let mut conf = Conf::built_in(alloc).expect(rt, "memory");
+    let file = file_of(rt, alloc, name);
+    let mut conf = built_in(rt, alloc);
     conf.accept_mac_file = Some(file);
-    let mut list = Vec::new(alloc);
-    list.push(conf).expect(rt, "memory");
-    Confs::new(list).expect(rt, "a configuration")
+    alone(rt, alloc, conf)
 }
 
 /// Ends the test where anything else is told of the list file of a configuration, over the store of a file: this, and

@@ -1,22 +1,10 @@
 //! A store that is worn out.
-use crate::expect::expect;
 use crate::hearing::Hearing;
-use crate::serving_tests::{LENGTH, NEVER, world};
-use crate::stage::Stage;
-use crate::talk::{AUTHENTICATION, CONTROL, Datagram, Line, RADIO, Talk, free_ports};
-use apd_control_port::ControlPort;
-use apd_desk::NoGate;
+use crate::serving_tests::{LENGTH, NEVER, serves_over};
+use crate::talk::{AUTHENTICATION, CONTROL, Datagram, Line, RADIO};
 use apd_disk::{MemDisk, OnceDisk};
-use apd_radio::UdpSim;
-use apd_serve::{ServeFault, SystemClock, serve};
-use apd_world::World;
-use log::Log;
 use std::alloc::Global;
-use std::net::Net;
 use std::process::Abort;
-use std::sync::Wait;
-use std::thread::Threads;
-use std::time;
 
 /// The record of the built-in policy of the one BSSID.
 const POLICY: &[u8] = &[6, 2, 0, 0, 0, 0, 1, 0, 0xd7, 7];
@@ -56,29 +44,6 @@ fn worn_disk(rt: &impl Abort, alloc: Global) -> OnceDisk<MemDisk> {
     OnceDisk::new(disk, NEVER)
 }
 
-/// What `serve` answers over such a store, once these lines are said, and how many were.
-fn serve_worn<R: Net + Wait + Threads + time::Clock + Log + Sync + Abort>(
-    rt: &R,
-    alloc: Global,
-    lines: &[Line],
-) -> (Result<u64, ServeFault>, usize)
-where
-    R::Stream: Send + Sync,
-    R::Listener: Send + Sync,
-{
-    let stage = Stage::new(false);
-    let port = free_ports(rt, 1);
-    let mut talk = Talk::new(rt, alloc, port, lines, &stage);
-    let control = ControlPort::open(rt, alloc, port).expect(rt, "a port of commands");
-    let radio = UdpSim::new(rt, alloc, port.wrapping_add(RADIO)).expect(rt, "a radio");
-    let world: World<_, UdpSim> = world(rt, alloc, worn_disk(rt, alloc), radio);
-    let clock = SystemClock::new(rt);
-    let answer = serve(rt, alloc, world, control, clock, &NoGate, &mut talk);
-    let said = talk.said_count();
-    drop(talk);
-    (answer, said)
-}
-
 // The second order is refused at once; a query is answered.
 #[test]
 fn a_worn_out_store_is_told_once(rt: HostRuntime) {
@@ -95,7 +60,7 @@ fn a_worn_out_store_is_told_once(rt: HostRuntime) {
         Line::Gets(1, CONTROL, Datagram::Text("PONG\n")),
     ];
     let hearing = Hearing::new(rt, rt.alloc());
-    let found = serve_worn(&hearing, rt.alloc(), LINES);
-    expect(&rt, found, (Ok(1), 6));
+    let device = worn_disk(&rt, rt.alloc());
+    serves_over(&hearing, rt.alloc(), device, LINES, 1);
     hearing.expect_heard(WORN);
 }
