@@ -26,11 +26,11 @@ pub(crate) fn file_of(rt: &impl Abort, alloc: Global, name: &str) -> FileName {
 }
 
 /// These configurations.
-pub(crate) fn all_of(rt: &impl Abort, list: Vec<Conf>) -> Confs {
+pub(crate) fn confs_of(rt: &impl Abort, list: Vec<Conf>) -> Confs {
     Confs::new(list).expect(rt, "configurations")
 }
 
 /// This configuration alone.
 pub(crate) fn alone(rt: &impl Abort, alloc: Global, conf: Conf) -> Confs {
-    all_of(rt, vec![in alloc; conf].expect(rt, "memory"))
+    confs_of(rt, vec![in alloc; conf].expect(rt, "memory"))
 }

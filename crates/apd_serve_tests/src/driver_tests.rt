@@ -1,7 +1,7 @@
 //! A radio whose driver has a port of its own.
 use crate::files::{new_store, remove_all};
 use crate::hearing::Hearing;
-use crate::running_tests::{confs, runs_talk, site};
+use crate::running_tests::{confs, driven_site, runs_talk};
 use crate::stage::Stage;
 use crate::talk::{
     ASSOCIATED, ASSOCIATION, AUTHENTICATED, AUTHENTICATION, Datagram, Line, OTHER_AUTHENTICATION,
@@ -41,9 +41,9 @@ fn only_its_driver_is_heard_and_told(rt: HostRuntime) {
     let stage = Stage::new(false);
     let port = free_ports(&rt, 1);
     let talk = Talk::new(&rt, alloc, port, LINES, &stage);
-    let drivers = Some(talk.port_of(&rt, 0));
-    let site = site(name, port, drivers, None, &[], false);
-    runs_talk(&hearing, confs(&rt, 1), &site, talk, LINES.len(), "2");
+    let drivers = talk.port_of(&rt, 0);
+    let site = driven_site(name, port, drivers);
+    runs_talk(&hearing, confs(&rt, 1), &site, talk, "2");
     let line = "[WARN  apd] wlan0: datagrams from elsewhere than its driver, passed over: 2\n";
     hearing.expect_heard_once(line);
     remove_all(&rt, &[name]);

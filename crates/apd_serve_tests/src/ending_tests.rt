@@ -103,7 +103,7 @@ where
     said
 }
 
-/// The same of a world in which the first station was authenticated, and the frame asks to associate it.
+/// Authenticates the first station, and does the same with the frame that asks to associate it.
 pub(crate) fn associate_to_the_end<
     R: Net + Wait + Threads + time::Clock + AllocGlobal + Log + Sync + Abort,
     S: Radio + Send,

@@ -33,7 +33,7 @@ const UP: &str = "[INFO  apd] wlan0: the driver is up again; stations installed:
 const DOWN: &str =
     "[ERROR apd] wlan0: the driver stays down: nothing is sent, installed or removed there until a restart\n";
 
-/// A world with the radio behind this port, which tells of its driver; that fails at so many installations.
+/// A world with the radio behind this port, which tells of its driver, and whose driver fails at so many installations.
 fn telling_world<'a, L: Log>(
     rt: &(impl Net + AllocGlobal + Abort),
     log: &'a L,

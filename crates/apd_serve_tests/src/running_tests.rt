@@ -1,4 +1,4 @@
-use crate::configurations::{all_of, built_in, conf_of};
+use crate::configurations::{built_in, conf_of, confs_of};
 use crate::expect::expect;
 use crate::files::{expect_file, expect_kept, new_store, read, remove_all, write};
 use crate::stage::Stage;
@@ -51,11 +51,11 @@ pub(crate) fn confs(rt: &(impl AllocGlobal + Abort), radios: u16) -> Confs {
         let second = conf_of(rt, rt.alloc(), "wlan1", 2);
         list.push(second).expect(rt, "memory");
     }
-    all_of(rt, list)
+    confs_of(rt, list)
 }
 
-// A site in which no device fault ends a run.
-pub(crate) fn site<'a>(
+/// A site in which no device fault ends a run.
+fn site<'a>(
     store: &'a str,
     port: u16,
     drivers: Option<u16>,
@@ -72,6 +72,16 @@ pub(crate) fn site<'a>(
         ends_at_fault: None,
         logs_stations,
     }
+}
+
+/// A site where it is logged what becomes of stations and lists, and nothing is recorded.
+pub(crate) fn telling_site<'a>(name: &'a str, port: u16) -> Site<'a> {
+    site(name, port, None, None, &[], true)
+}
+
+/// A site where the radios' drivers have the ports from this one on, and nothing is logged beside.
+pub(crate) fn driven_site<'a>(name: &'a str, port: u16, drivers: u16) -> Site<'a> {
+    site(name, port, Some(drivers), None, &[], false)
 }
 
 /// What `run` of a store at this port answers, where the configurations are of files of these names.
@@ -110,10 +120,10 @@ pub(crate) fn expect_answer(
     expect(rt, text.as_str(), wanted);
 }
 
-/// Ends the test where `run` of a site answers anything else of a talk, or not so many of its lines are said.
+/// Ends the test where `run` of a site answers anything else of a talk, or not all of its lines are said.
 pub(crate) fn runs_talk<
     R: Files<File = File> + Net + Wait + Threads + Clock + AllocGlobal + Log + Sync + Abort,
->(rt: &R, confs: Confs, site: &Site<'_>, talk: Talk<'_>, lines: usize, wanted: &str)
+>(rt: &R, confs: Confs, site: &Site<'_>, talk: Talk<'_>, wanted: &str)
 where
     R::Dir: Send + Sync,
     R::Stream: Send + Sync,
@@ -122,6 +132,7 @@ where
     let mut talk = talk;
     let answer = run(rt, confs, site, &mut talk);
     let said = talk.said_count();
+    let lines = talk.line_count();
     drop(talk);
     expect_answer(rt, answer, wanted);
     expect(rt, said, lines);
@@ -138,11 +149,10 @@ where
     R::Listener: Send + Sync,
 {
     let stage = Stage::new(false);
-    let written = lines.len();
     let port = free_ports(rt, 8);
     let site = site(store, port, None, recordings, &[], false);
     let talk = Talk::new(rt, rt.alloc(), port, lines, &stage);
-    runs_talk(rt, confs, &site, talk, written, wanted);
+    runs_talk(rt, confs, &site, talk, wanted);
     port
 }
 

@@ -301,7 +301,8 @@ fn an_answer_waits_for_its_commit_and_the_start_for_nothing(rt: HostRuntime) {
     serves_scene(&rt, rt.alloc(), device, scene, &stage, clock, &gate);
 }
 
-/// Ends the test where anything else comes of a scene by the stage's clock.
+/// Ends the test where `serve` over a new store in memory answers anything else in a scene by the stage's clock, or not
+/// all its lines are said.
 pub(crate) fn serves_on_stage<R: Net + Wait + Threads + time::Clock + Log + Sync + Abort>(
     rt: &R,
     alloc: Global,

@@ -1,7 +1,7 @@
 //! What is told of stations and of lists.
 use crate::files::{new_store, remove_all};
 use crate::hearing::Hearing;
-use crate::running_tests::{confs, runs_talk, site};
+use crate::running_tests::{confs, runs_talk, telling_site};
 use crate::stage::Stage;
 use crate::talk::{
     ASSOCIATED, ASSOCIATION, AUTHENTICATED, AUTHENTICATION, CONTROL, Datagram, Line,
@@ -41,11 +41,10 @@ where
     new_store(&rt, name);
     let hearing = Hearing::new(rt, alloc);
     let stage = Stage::new(false);
-    let written = lines.len();
     let port = free_ports(&rt, 2);
-    let site = site(name, port, None, None, &[], true);
+    let site = telling_site(name, port);
     let talk = Talk::new(&rt, alloc, port, lines, &stage);
-    runs_talk(&hearing, confs(&rt, 2), &site, talk, written, entries);
+    runs_talk(&hearing, confs(&rt, 2), &site, talk, entries);
     let wanted = format!(in alloc;
         "[INFO  apd] serves commands on port {port}, wlan0 on port {}, wlan1 on port {}; stations recovered: 0\n{wanted}[INFO  apd] entries {entries}\n",
         port.wrapping_add(1),

@@ -168,7 +168,7 @@ impl<'a> Talk<'a> {
         }
     }
 
-    // The socket of a sender.
+    // The socket of the sender of this place, if there is one.
     fn socket(&self, sender: usize) -> Option<&UdpSocket> {
         match sender {
             0 => Some(&self.senders.0),
@@ -189,6 +189,11 @@ impl<'a> Talk<'a> {
     /// How many lines were said as they are written; the talk ends at the first that isn't.
     pub(crate) fn said_count(&self) -> usize {
         self.said
+    }
+
+    /// How many lines it has.
+    pub(crate) fn line_count(&self) -> usize {
+        self.lines.len()
     }
 
     // What a sender gets in this time, in milliseconds, from a port of the access point.

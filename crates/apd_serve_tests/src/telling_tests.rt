@@ -1,4 +1,4 @@
-use crate::configurations::{all_of, alone, built_in, conf_of, file_of};
+use crate::configurations::{alone, built_in, conf_of, confs_of, file_of};
 use crate::expect::expect;
 use crate::files::{new_store, remove_all};
 use crate::hearing::Hearing;
@@ -51,7 +51,7 @@ fn numbered_confs(rt: &impl Abort, alloc: Global, interfaces: &[&str], first: u8
         list.push(conf).expect(rt, "memory");
         number = number.wrapping_add(1);
     }
-    all_of(rt, list)
+    confs_of(rt, list)
 }
 
 #[test]
