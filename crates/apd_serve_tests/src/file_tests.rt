@@ -21,12 +21,12 @@ const LENGTH: usize = 2_097_216;
 
 /// A file that is lent to a disk, and looked at when that is gone.
 #[derive(Drop)]
-struct Lent<'a, 'b, W> {
+struct Lent<'a, W> {
     rt: &'a W,
-    file: &'b Mutex<MemoryFile>,
+    file: &'a Mutex<MemoryFile>,
 }
 
-impl<W: Wait> DeviceFile for Lent<'_, '_, W> {
+impl<W: Wait> DeviceFile for Lent<'_, W> {
     ghost answers = { λ _ _ _. ⊤ };
 
     ghost drops = { λ _ _. ⊤ };

@@ -68,7 +68,11 @@ pub(crate) fn disk(rt: &impl Abort, alloc: Global, calls: u64) -> OnceDisk<MemDi
 
 /// One slot, with this radio.
 fn slots<R: Radio>(rt: &impl Abort, alloc: Global, bssid: Bssid, radio: R) -> Vec<Slot<R>> {
-    vec![in alloc; Slot::new(alloc, radio, bssid)].expect(rt, "memory")
+    let mut slots = Vec::new(alloc);
+    slots
+        .push(Slot::new(alloc, radio, bssid))
+        .expect(rt, "memory");
+    slots
 }
 
 /// The world of the one configuration over this disk, with this radio.
