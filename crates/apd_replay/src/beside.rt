@@ -6,6 +6,7 @@ use crate::history::Calls;
 use crate::notes::{Call, Lane, Note};
 use crate::plan::RadioPlan;
 use crate::radio::NotedRadio;
+use apd_base::Bssid;
 use apd_disk::MemDisk;
 use apd_mlme::Recipient;
 use apd_slot::{Mending, Slot, SlotFault};
@@ -31,6 +32,24 @@ pub(crate) struct Beside<'a, W: Wait> {
     pub(crate) is_marked: bool,
 }
 
+// Applies the first out that waits at a slot, if one does.
+fn apply<W: Wait>(world: &mut Replayed<'_, W>, bssid: Bssid) -> Option<Result<(), SlotFault>> {
+    let told = make_step(world, Step::Apply(bssid));
+    match &told {
+        Some(Told::Applied(_, answer)) => Some(*answer),
+        _ => None,
+    }
+}
+
+// Hands out to a slot. Tells how many outs.
+fn hand<W: Wait>(world: &mut Replayed<'_, W>, to: Recipient) -> usize {
+    let told = make_step(world, Step::Hand(to));
+    match &told {
+        Some(Told::Queued(count)) => *count,
+        _ => 0,
+    }
+}
+
 impl<'a, W: Wait> Beside<'a, W> {
     fn to(&self) -> Recipient {
         Recipient::Radio(self.radio.bssid)
@@ -39,13 +58,13 @@ impl<'a, W: Wait> Beside<'a, W> {
     // Applies an out, and begins to mend the slot where it went down. Tells how many were taken.
     fn apply_next(&mut self, world: &mut Replayed<'a, W>) -> usize {
         let bssid = self.radio.bssid;
-        match make_step(world, Step::Apply(bssid)) {
-            Some(Told::Applied(_out, Err(SlotFault::WentDown))) => {
+        match apply(world, bssid) {
+            Some(Err(SlotFault::WentDown)) => {
                 begin_mending(world, bssid, &mut self.mending);
                 1
             }
-            Some(Told::Applied(..)) => 1,
-            _ => 0,
+            Some(_) => 1,
+            None => 0,
         }
     }
 
@@ -60,10 +79,7 @@ impl<'a, W: Wait> Beside<'a, W> {
 
     // Hands out to the slot, and applies all that.
     fn hand_out(&mut self, world: &mut Replayed<'a, W>) {
-        let mut left = match make_step(world, Step::Hand(self.to())) {
-            Some(Told::Queued(count)) => count,
-            _ => 0,
-        };
+        let mut left = hand(world, self.to());
         for _turn in 0..TURNS {
             if left == 0 {
                 return;

@@ -63,16 +63,15 @@ impl PortReading<'_> {
     }
 
     // The command of a tag, which was not replied to before.
-    fn reply_to(&mut self, tag: u64) -> Result<(Command, &[u8]), Fault> {
-        let twice = Fault::ReplyTwice(tag);
-        let place = usize::try_from(tag).map_err(|_| twice)?;
-        let command = self.commands.get_mut(place).ok_or(twice)?;
-        if command.is_replied {
-            return Err(twice);
+    fn reply_to(&mut self, tag: u64) -> Option<Command> {
+        let place = usize::try_from(tag).unwrap_or(usize::MAX);
+        match self.commands.get_mut(place) {
+            Some(command) if !command.is_replied => {
+                command.is_replied = true;
+                Some(*command)
+            }
+            _ => None,
         }
-        command.is_replied = true;
-        let bytes = self.plan.commands.get(place).ok_or(twice)?;
-        Ok((*command, bytes.as_slice()))
     }
 
     // Whether each command was replied to that has to be by now: but orders that became entries, and are told of by the
@@ -88,7 +87,7 @@ impl PortReading<'_> {
 }
 
 /// What has to be replied to a command.
-#[derive(Clone, Copy, Debug, PartialEq, Eq)]
+#[derive(Clone, Copy)]
 enum Wanted {
     /// This text, at once.
     Text(&'static [u8]),
@@ -130,22 +129,39 @@ fn wanted_reply(plan: &Plan, bytes: &[u8], up: Option<bool>) -> Wanted {
 }
 
 impl History {
+    // Adds the reply to an order, or compares it with that to one that became no entry.
+    fn add_order_reply(
+        &mut self,
+        is_entry: bool,
+        failed: bool,
+        tag: u64,
+        text: u64,
+    ) -> Result<(), Fault> {
+        if is_entry {
+            return Ok(self.replies.push((tag, text))?);
+        }
+        if failed {
+            check_same(tag, text, digest(FAIL))
+        } else {
+            Err(Fault::OtherReply(tag))
+        }
+    }
+
     // Adds a reply.
     fn add_reply(&mut self, port: &mut PortReading<'_>, tag: u64, text: u64) -> Result<(), Fault> {
-        let (plan, to, failed) = (port.plan, port.told, port.failed);
         let seen = port.seen.take();
-        let (command, bytes) = port.reply_to(tag)?;
-        match wanted_reply(plan, bytes, steadily_up(command.seen, seen)) {
+        let (Some(command), Some(bytes)) = (port.reply_to(tag), port.plan.command(tag)) else {
+            return Err(Fault::ReplyTwice(tag));
+        };
+        match wanted_reply(port.plan, bytes, steadily_up(command.seen, seen)) {
             Wanted::Text(wanted) => check_same(tag, text, digest(wanted)),
-            Wanted::Order if command.is_entry => Ok(self.replies.push((tag, text))?),
-            Wanted::Order if failed => check_same(tag, text, digest(FAIL)),
-            Wanted::Order => Err(Fault::OtherReply(tag)),
+            Wanted::Order => self.add_order_reply(command.is_entry, port.failed, tag, text),
             Wanted::Answer(queries) => {
                 let answer = Answered {
                     command: Some(tag),
                     queries,
                     from: command.from,
-                    to,
+                    to: port.told,
                     text,
                 };
                 Ok(self.answers.push(answer)?)

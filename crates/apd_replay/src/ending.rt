@@ -3,8 +3,8 @@ use crate::calls::{commit, hand_to_slot, mend_slot_first, tend_slot};
 use crate::device::{Device, disk_of};
 use crate::fault::Fault;
 use crate::frames::{FIRST_STATION, STATIONS};
+use crate::gate::NotedGate;
 use crate::plan::station;
-use crate::port::NotedPort;
 use crate::working::{PortPart, RadioPart, Worker};
 use apd_desk::{Port, Seat, Shared};
 use apd_disk::MemDisk;
@@ -25,7 +25,7 @@ pub(crate) type Held = (Option<u16>, Option<u16>);
 
 /// How far the worker of a radio had come when it ended: the last settled entry whose outs it applied, how many notes
 /// there were, whether its slot was up, and whether it was noted to be.
-#[derive(Clone, Copy, Debug)]
+#[derive(Clone, Copy)]
 pub(crate) struct Mark {
     pub(crate) seen: u64,
     pub(crate) notes: usize,
@@ -34,7 +34,7 @@ pub(crate) struct Mark {
 }
 
 /// A slot at the end.
-#[derive(Debug, Drop)]
+#[derive(Drop)]
 pub(crate) struct SlotEnd {
     pub(crate) mark: Mark,
     pub(crate) up: bool,
@@ -57,6 +57,26 @@ impl<L: Ledger> Left<L> {
             slots: Vec::new(alloc),
             disk: None,
         }
+    }
+
+    fn add_seat(&mut self, seat: Seat<L>) -> Result<(), AllocError> {
+        Ok(self.seats.push(seat)?)
+    }
+
+    // Adds a slot, and the seat of its worker.
+    fn add_slot(&mut self, end: SlotEnd, seat: Seat<L>) -> Result<(), AllocError> {
+        self.slots.push(end)?;
+        self.add_seat(seat)
+    }
+
+    // Adds the seats of the worker of the port: its own, and the port's.
+    fn add_both(&mut self, own: Seat<L>, of_port: Seat<L>) -> Result<(), AllocError> {
+        self.seats.push(own)?;
+        self.add_seat(of_port)
+    }
+
+    fn set_disk(&mut self, disk: MemDisk) {
+        self.disk = Some(disk);
     }
 }
 
@@ -95,6 +115,44 @@ fn hand_out<L: Ledger, W: Wait, R: Radio>(
     drop(mending);
 }
 
+// How far the worker of a radio had come, whose log had so many notes.
+fn mark_of<L: Ledger, W: Wait, R: Radio>(
+    rt: &W,
+    shared: &Shared<L>,
+    seat: &Seat<L>,
+    slot: &Slot<R>,
+    notes: usize,
+) -> Mark {
+    Mark {
+        seen: seat.seen_number(),
+        notes,
+        up: slot.is_up(),
+        noted: shared.is_noted_up(rt, slot.bssid()),
+    }
+}
+
+// Hands out to a slot, and tells what becomes of it.
+fn slot_end<L: Ledger, W: Wait, R: Radio>(
+    rt: &W,
+    alloc: Global,
+    shared: &Shared<L>,
+    seat: &mut Seat<L>,
+    slot: Slot<R>,
+    notes: usize,
+) -> Result<SlotEnd, AllocError> {
+    let mut slot = slot;
+    let mark = mark_of(rt, shared, seat, &slot, notes);
+    hand_out(rt, alloc, shared, seat, &mut slot);
+    let up = slot.is_up();
+    let held = held_by(alloc, &slot);
+    drop(slot);
+    Ok(SlotEnd {
+        mark,
+        up,
+        stations: held?,
+    })
+}
+
 fn radio_end<L: Ledger, W: Wait>(
     rt: &W,
     alloc: Global,
@@ -104,25 +162,22 @@ fn radio_end<L: Ledger, W: Wait>(
 ) -> Result<(), AllocError> {
     let RadioPart {
         mut seat,
-        mut slot,
+        slot,
+        spares,
+        clock,
         gate,
-        ..
     } = part;
-    let mark = Mark {
-        seen: seat.seen_number(),
-        notes: gate.lane.log.count(rt),
-        up: slot.is_up(),
-        noted: shared.is_noted_up(rt, slot.bssid()),
-    };
-    hand_out(rt, alloc, shared, &mut seat, &mut slot);
-    let end = SlotEnd {
-        mark,
-        up: slot.is_up(),
-        stations: held_by(alloc, &slot)?,
-    };
-    left.slots.push(end)?;
-    left.seats.push(seat)?;
-    Ok(())
+    let notes = gate.lane.log.count(rt);
+    drop(spares);
+    drop(clock);
+    drop(gate);
+    match slot_end(rt, alloc, shared, &mut seat, slot, notes) {
+        Ok(end) => left.add_slot(end, seat),
+        Err(error) => {
+            drop(seat);
+            Err(error)
+        }
+    }
 }
 
 fn reply_all<P: Port>(port: &mut P, outs: &[Out]) {
@@ -131,6 +186,18 @@ fn reply_all<P: Port>(port: &mut P, outs: &[Out]) {
             let _sent = port.reply(*tag, text.as_slice());
         }
     }
+}
+
+// Replies what was settled.
+fn reply_settled<L: Ledger, W: Wait, P: Port>(
+    rt: &W,
+    shared: &Shared<L>,
+    seat: &mut Seat<L>,
+    port: &mut P,
+) -> Result<(), AllocError> {
+    let outs = shared.collect(rt, seat, Recipient::Control)?;
+    reply_all(port, outs.as_slice());
+    Ok(())
 }
 
 fn control_end<L: Ledger, W: Wait>(
@@ -142,18 +209,34 @@ fn control_end<L: Ledger, W: Wait>(
     let PortPart {
         mut seat,
         mut port,
-        ..
+        clock,
+        gate,
     } = part;
-    let outs = shared.collect(rt, &mut seat, Recipient::Control)?;
-    reply_all(&mut port, outs.as_slice());
-    let NotedPort { seat: own, .. } = port;
-    left.seats.push(seat)?;
-    left.seats.push(own)?;
-    Ok(())
+    drop(clock);
+    drop(gate);
+    match reply_settled(rt, shared, &mut seat, &mut port) {
+        Ok(()) => left.add_both(seat, port.into_seat()),
+        Err(error) => {
+            drop(seat);
+            drop(port);
+            Err(error)
+        }
+    }
 }
 
-fn device_of<W: Wait>(committer: Committer<Device<'_, W>>) -> MemDisk {
-    let (flusher, _batch, _receipt) = committer.into_parts();
+// What the device of the worker that commits holds, once what waits is committed.
+fn commit_end<L: Ledger, W: Wait + Clock>(
+    rt: &W,
+    shared: &Shared<L>,
+    committer: Committer<Device<'_, W>>,
+    gate: NotedGate<'_, L, W>,
+) -> MemDisk {
+    let mut committer = committer;
+    commit(rt, shared, &mut committer, &gate);
+    drop(gate);
+    let (flusher, batch, receipt) = committer.into_parts();
+    drop(batch);
+    drop(receipt);
     disk_of(flusher.into_device())
 }
 
@@ -167,14 +250,16 @@ fn end<L: Ledger, W: Wait + Clock>(
 ) -> Result<(), AllocError> {
     match worker {
         Worker::Committing(committer, gate) => {
-            let mut committer = committer;
-            commit(rt, shared, &mut committer, &gate);
-            left.disk = Some(device_of(committer));
+            left.set_disk(commit_end(rt, shared, committer, gate));
             Ok(())
         }
         Worker::Radio(part) => radio_end(rt, alloc, shared, part, left),
         Worker::Control(part) => control_end(rt, shared, part, left),
-        Worker::Ticks(seat, ..) => Ok(left.seats.push(seat)?),
+        Worker::Ticks(seat, clock, gate) => {
+            drop(clock);
+            drop(gate);
+            left.add_seat(seat)
+        }
     }
 }
 

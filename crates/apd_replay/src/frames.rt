@@ -46,7 +46,7 @@ const PROBE: [u8; 29] = [
 ];
 
 /// What a frame is.
-#[derive(Clone, Copy, Debug, PartialEq, Eq)]
+#[derive(Clone, Copy)]
 pub(crate) enum Kind {
     Authentication,
     Association,
@@ -93,7 +93,7 @@ impl Kind {
 }
 
 /// A frame that a radio receives.
-#[derive(Debug, Drop)]
+#[derive(Drop)]
 pub(crate) struct Frame {
     pub(crate) kind: Kind,
     /// The last byte of its station's address.

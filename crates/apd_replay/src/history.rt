@@ -1,6 +1,5 @@
 //! What the notes of a run say: the requests by their numbers, what was told, and to whom.
 use crate::fault::Fault;
-use crate::frames::Frame;
 use crate::notes::{Call, Lane, Note};
 use crate::plan::{Plan, RadioPlan};
 use crate::running::Record;
@@ -12,7 +11,7 @@ use std::collections::BTreeMap;
 use std::sync::Wait;
 
 /// What became an entry: the frame at a place of the radio at a place, the command at a place, or a tick.
-#[derive(Clone, Copy, Debug, PartialEq, Eq)]
+#[derive(Clone, Copy)]
 pub(crate) enum Source {
     Frame(usize, usize),
     Order(usize),
@@ -20,7 +19,7 @@ pub(crate) enum Source {
 }
 
 /// A request that became an entry.
-#[derive(Clone, Copy, Debug)]
+#[derive(Clone, Copy)]
 pub(crate) struct Entry {
     pub(crate) source: Source,
     pub(crate) stamp: u64,
@@ -29,7 +28,7 @@ pub(crate) struct Entry {
 
 /// A frame that became none. It was submitted behind the entry of one number, at or before that of another: of the
 /// entries of its own worker, and of ticks, it is known whether they came before.
-#[derive(Clone, Copy, Debug)]
+#[derive(Clone, Copy)]
 pub(crate) struct Quiet {
     pub(crate) radio: usize,
     pub(crate) place: usize,
@@ -40,7 +39,7 @@ pub(crate) struct Quiet {
 
 /// An answer of a sum, which is that to one of two queries as of an entry between two numbers. Where the port's own
 /// seat was told, there is no command.
-#[derive(Clone, Copy, Debug)]
+#[derive(Clone, Copy)]
 pub(crate) struct Answered {
     pub(crate) command: Option<u64>,
     pub(crate) queries: [Query; 2],
@@ -50,14 +49,14 @@ pub(crate) struct Answered {
 }
 
 /// The calls of a slot's drivers, and how many there were when its worker ended.
-#[derive(Debug, Drop)]
+#[derive(Drop)]
 pub(crate) struct Calls {
     pub(crate) all: Vec<Call>,
     pub(crate) at_mark: usize,
 }
 
 /// What the notes of a run say.
-#[derive(Debug, Drop)]
+#[derive(Drop)]
 pub(crate) struct History {
     pub(crate) entries: BTreeMap<u64, Entry>,
     /// The frames that became no entry, by their stamps.
@@ -66,6 +65,24 @@ pub(crate) struct History {
     pub(crate) answers: Vec<Answered>,
     /// The replies to orders that became entries: the commands' places and the sums.
     pub(crate) replies: Vec<(u64, u64)>,
+}
+
+// By whom a worker is given what becomes entries: by the radio at a place, by the port, or by the clock.
+#[derive(Clone, Copy)]
+enum Giver {
+    Radio(usize),
+    Port,
+    Clock,
+}
+
+impl Giver {
+    fn source(self, place: usize) -> Source {
+        match self {
+            Giver::Radio(radio) => Source::Frame(radio, place),
+            Giver::Port => Source::Order(place),
+            Giver::Clock => Source::Tick,
+        }
+    }
 }
 
 // What a worker was given last.
@@ -190,8 +207,10 @@ fn check_rise(reading: &Reading) -> Result<(), Fault> {
 
 // Whether the frame at a place always becomes an entry.
 fn is_answered(radio: &RadioPlan, place: usize) -> bool {
-    let frame: Option<&Frame> = radio.frames.get(place);
-    frame.is_some_and(|frame| frame.kind.is_answered())
+    match radio.frames.get(place) {
+        Some(frame) => frame.kind.is_answered(),
+        None => false,
+    }
 }
 
 impl History {
@@ -220,25 +239,10 @@ impl History {
         }
     }
 
-    // Adds the entries of a radio.
-    fn add_frames(&mut self, reading: &Reading) -> Result<(), Fault> {
+    // Adds the entries of a worker.
+    fn add_entries(&mut self, reading: &Reading, giver: Giver) -> Result<(), Fault> {
         for given in reading.given.iter() {
-            let source = Source::Frame(reading.worker, given.place);
-            self.add_entry(given, source)?;
-        }
-        Ok(())
-    }
-
-    fn add_orders(&mut self, reading: &Reading) -> Result<(), Fault> {
-        for given in reading.given.iter() {
-            self.add_entry(given, Source::Order(given.place))?;
-        }
-        Ok(())
-    }
-
-    fn add_ticks(&mut self, reading: &Reading) -> Result<(), Fault> {
-        for given in reading.given.iter() {
-            self.add_entry(given, Source::Tick)?;
+            self.add_entry(given, giver.source(given.place))?;
         }
         Ok(())
     }
@@ -247,11 +251,10 @@ impl History {
     fn ticks_at(&self, stamp: u64) -> (u64, Option<u64>) {
         let mut behind = 0;
         for (number, entry) in self.entries.iter() {
-            if entry.source == Source::Tick {
-                if entry.stamp > stamp {
-                    return (behind, Some(*number));
-                }
-                behind = *number;
+            match entry.source {
+                Source::Tick if entry.stamp > stamp => return (behind, Some(*number)),
+                Source::Tick => behind = *number,
+                Source::Frame(..) | Source::Order(_) => {}
             }
         }
         (behind, None)
@@ -320,7 +323,12 @@ fn refused(radio: usize, place: usize, record: &Record) -> Result<(), Fault> {
 
 // The number of the first entry behind a place.
 fn next_number(given: &[Given], at: usize) -> Option<u64> {
-    given.iter().skip(at).find_map(|given| given.number)
+    for given in given.iter().skip(at) {
+        if given.number.is_some() {
+            return given.number;
+        }
+    }
+    None
 }
 
 // Whether the numbers of the entries are those behind the start, each once.
@@ -352,6 +360,42 @@ fn check_fault(history: &History, fault: Option<u64>) -> Result<(), Fault> {
     Ok(())
 }
 
+// The notes of a log.
+fn notes_of(rt: &impl Wait, alloc: Global, lane: Option<&Lane>) -> Result<Vec<Note>, Fault> {
+    match lane {
+        Some(lane) => Ok(lane.log.read(rt, alloc)?),
+        None => Err(Fault::NoThread),
+    }
+}
+
+fn check_radio(reading: &Reading) -> Result<(), Fault> {
+    check_places(reading)?;
+    check_rise(reading)
+}
+
+// Adds what the notes of a radio say.
+fn add_reading(readings: &mut Vec<Reading>, reading: Reading) -> Result<(), Fault> {
+    match check_radio(&reading) {
+        Ok(()) => Ok(readings.push(reading)?),
+        Err(fault) => {
+            drop(reading);
+            Err(fault)
+        }
+    }
+}
+
+// Reads the notes of a radio.
+fn read_radio(
+    rt: &impl Wait,
+    alloc: Global,
+    place: usize,
+    lane: &Lane,
+    mark: usize,
+) -> Result<Reading, Fault> {
+    let notes = lane.log.read(rt, alloc)?;
+    read(alloc, place, notes.as_slice(), mark)
+}
+
 // Reads the notes of the radios.
 fn read_radios(
     rt: &impl Wait,
@@ -361,30 +405,61 @@ fn read_radios(
 ) -> Result<Vec<Reading>, Fault> {
     let mut readings = Vec::new(alloc);
     for (place, (lane, slot)) in lanes.iter().zip(record.slots.iter()).enumerate() {
-        let notes = lane.log.read(rt, alloc)?;
-        let reading = read(alloc, place, notes.as_slice(), slot.mark.notes)?;
-        check_places(&reading)?;
-        check_rise(&reading)?;
-        readings.push(reading)?;
+        let reading = read_radio(rt, alloc, place, lane, slot.mark.notes)?;
+        add_reading(&mut readings, reading)?;
     }
     Ok(readings)
 }
 
-// The calls of the drivers.
-fn calls_of(alloc: Global, readings: Vec<Reading>) -> Result<Vec<Calls>, AllocError> {
-    let mut calls = Vec::new(alloc);
-    for reading in readings {
-        let Reading {
-            calls: all,
-            at_mark,
-            ..
-        } = reading;
-        calls.push(Calls { all, at_mark })?;
-    }
-    Ok(calls)
-}
-
 impl History {
+    // Adds the entries of a worker that isn't a radio's.
+    fn add_other(
+        &mut self,
+        alloc: Global,
+        plan: &Plan,
+        giver: Giver,
+        notes: &[Note],
+    ) -> Result<(), Fault> {
+        let reading = read(alloc, plan.radios.len(), notes, 0)?;
+        check_rise(&reading)?;
+        self.add_entries(&reading, giver)
+    }
+
+    // Adds what the port's log says.
+    fn add_port_log(
+        &mut self,
+        rt: &impl Wait,
+        alloc: Global,
+        plan: &Plan,
+        failed: bool,
+        lane: Option<&Lane>,
+    ) -> Result<(), Fault> {
+        let notes = notes_of(rt, alloc, lane)?;
+        self.add_other(alloc, plan, Giver::Port, notes.as_slice())?;
+        self.add_port(alloc, plan, failed, notes.as_slice())
+    }
+
+    fn add_tick_log(
+        &mut self,
+        rt: &impl Wait,
+        alloc: Global,
+        plan: &Plan,
+        lane: Option<&Lane>,
+    ) -> Result<(), Fault> {
+        let notes = notes_of(rt, alloc, lane)?;
+        self.add_other(alloc, plan, Giver::Clock, notes.as_slice())
+    }
+
+    fn check_commit_log(
+        &self,
+        rt: &impl Wait,
+        alloc: Global,
+        lane: Option<&Lane>,
+    ) -> Result<(), Fault> {
+        let notes = notes_of(rt, alloc, lane)?;
+        check_fault(self, read_turns(notes.as_slice())?)
+    }
+
     // Adds what the port's notes say, and those of ticks, and looks at those of commits.
     fn add_others(
         &mut self,
@@ -392,23 +467,64 @@ impl History {
         alloc: Global,
         plan: &Plan,
         lanes: &[Lane],
-        record: &Record,
+        failed: bool,
     ) -> Result<(), Fault> {
         let mut others = lanes.iter().skip(plan.radios.len());
-        let port = others.next().ok_or(Fault::NoThread)?;
-        let notes = port.log.read(rt, alloc)?;
-        let reading = read(alloc, plan.radios.len(), notes.as_slice(), 0)?;
-        check_rise(&reading)?;
-        self.add_orders(&reading)?;
-        self.add_port(alloc, plan, record.failed, notes.as_slice())?;
-        let ticks = others.next().ok_or(Fault::NoThread)?;
-        let notes = ticks.log.read(rt, alloc)?;
-        let reading = read(alloc, plan.radios.len(), notes.as_slice(), 0)?;
-        check_rise(&reading)?;
-        self.add_ticks(&reading)?;
-        let commits = others.next().ok_or(Fault::NoThread)?;
-        let notes = commits.log.read(rt, alloc)?;
-        check_fault(self, read_turns(notes.as_slice())?)
+        self.add_port_log(rt, alloc, plan, failed, others.next())?;
+        self.add_tick_log(rt, alloc, plan, others.next())?;
+        self.check_commit_log(rt, alloc, others.next())
+    }
+
+    // Adds the entries of all workers, what the port was told, and the frames that became no entries.
+    fn add_all(
+        &mut self,
+        rt: &impl Wait,
+        alloc: Global,
+        plan: &Plan,
+        lanes: &[Lane],
+        record: &Record,
+        readings: &[Reading],
+    ) -> Result<(), Fault> {
+        for reading in readings {
+            self.add_entries(reading, Giver::Radio(reading.worker))?;
+        }
+        self.add_others(rt, alloc, plan, lanes, record.failed)?;
+        let last = check_numbers(self, record)?;
+        for (reading, radio) in readings.iter().zip(plan.radios.iter()) {
+            self.add_all_quiet(reading, radio, record, last)?;
+        }
+        Ok(())
+    }
+
+    // Adds the calls of the drivers.
+    fn add_calls(&mut self, readings: Vec<Reading>) -> Result<(), AllocError> {
+        for reading in readings {
+            let Reading { calls, at_mark, .. } = reading;
+            self.calls.push(Calls {
+                all: calls,
+                at_mark,
+            })?;
+        }
+        Ok(())
+    }
+
+    // Adds what these and the other notes say.
+    fn add_readings(
+        &mut self,
+        rt: &impl Wait,
+        alloc: Global,
+        plan: &Plan,
+        lanes: &[Lane],
+        record: &Record,
+        readings: Vec<Reading>,
+    ) -> Result<(), Fault> {
+        match self.add_all(rt, alloc, plan, lanes, record, readings.as_slice()) {
+            Ok(()) => Ok(self.add_calls(readings)?),
+            Err(fault) => {
+                drop(readings);
+                Err(fault)
+            }
+        }
     }
 
     /// What the notes of a run say.
@@ -419,17 +535,14 @@ impl History {
         lanes: &[Lane],
         record: &Record,
     ) -> Result<History, Fault> {
-        let mut history = History::new(alloc);
         let readings = read_radios(rt, alloc, lanes, record)?;
-        for reading in readings.iter() {
-            history.add_frames(reading)?;
+        let mut history = History::new(alloc);
+        match history.add_readings(rt, alloc, plan, lanes, record, readings) {
+            Ok(()) => Ok(history),
+            Err(fault) => {
+                drop(history);
+                Err(fault)
+            }
         }
-        history.add_others(rt, alloc, plan, lanes, record)?;
-        let last = check_numbers(&history, record)?;
-        for (reading, radio) in readings.iter().zip(plan.radios.iter()) {
-            history.add_all_quiet(reading, radio, record, last)?;
-        }
-        history.calls = calls_of(alloc, readings)?;
-        Ok(history)
     }
 }

@@ -7,7 +7,7 @@ use std::sync::atomic::{AtomicBool, AtomicU64, AtomicUsize, Ordering};
 use std::sync::{Mutex, Wait};
 
 /// What a driver was asked for; a frame by its sum.
-#[derive(Clone, Copy, Debug, PartialEq, Eq)]
+#[derive(Clone, Copy, Debug, PartialEq)]
 pub(crate) enum Asked {
     Install(Addr, u16),
     Remove(Addr),
@@ -16,7 +16,7 @@ pub(crate) enum Asked {
 }
 
 /// A call of the driver of the radio of this number, and its answer.
-#[derive(Clone, Copy, Debug, PartialEq, Eq)]
+#[derive(Clone, Copy, Debug, PartialEq)]
 pub(crate) struct Call {
     pub(crate) radio: usize,
     pub(crate) asked: Asked,
@@ -24,7 +24,7 @@ pub(crate) struct Call {
 }
 
 /// What the device was asked for: so many bytes at a place, or a sync.
-#[derive(Clone, Copy, Debug, PartialEq, Eq)]
+#[derive(Clone, Copy, Debug)]
 pub(crate) enum DeviceCall {
     Read(usize, usize),
     Write(usize, usize),
@@ -33,7 +33,7 @@ pub(crate) enum DeviceCall {
 
 /// What the port saw of a radio at a look: whether it is noted to be up, and how often its drivers had failed, or were
 /// taken down, before and behind that.
-#[derive(Clone, Copy, Debug, PartialEq, Eq)]
+#[derive(Clone, Copy, Debug)]
 pub(crate) struct Seen {
     pub(crate) before: u64,
     pub(crate) up: bool,
@@ -41,7 +41,7 @@ pub(crate) struct Seen {
 }
 
 /// What was noted.
-#[derive(Clone, Copy, Debug, PartialEq, Eq)]
+#[derive(Clone, Copy, Debug)]
 pub(crate) enum Note {
     /// The frame, or the command, of this place was given, at this stamp.
     Given(u64, usize),

@@ -9,7 +9,7 @@ use apd_radio::RadioFault;
 use std::alloc::{AllocError, Global};
 
 /// So many calls of a driver in a row that fail, from the one behind so many on.
-#[derive(Clone, Copy, Debug)]
+#[derive(Clone, Copy)]
 pub(crate) struct Failing {
     pub(crate) from: u64,
     pub(crate) count: u64,
@@ -17,7 +17,7 @@ pub(crate) struct Failing {
 }
 
 /// Which calls of a driver fail.
-#[derive(Clone, Copy, Debug)]
+#[derive(Clone, Copy)]
 pub(crate) struct Faults(pub(crate) [Failing; 2]);
 
 impl Faults {
@@ -33,7 +33,7 @@ impl Faults {
 }
 
 /// What one radio receives, in order, and which calls of its driver, and of those that stand by, fail.
-#[derive(Debug, Drop)]
+#[derive(Drop)]
 pub(crate) struct RadioPlan {
     pub(crate) bssid: Bssid,
     pub(crate) frames: Vec<Frame>,
@@ -42,7 +42,7 @@ pub(crate) struct RadioPlan {
 }
 
 /// When all are told to stop.
-#[derive(Clone, Copy, Debug, PartialEq, Eq)]
+#[derive(Clone, Copy, Debug)]
 pub(crate) enum End {
     /// Once all was received and asked.
     AllGiven,
@@ -55,7 +55,7 @@ pub(crate) enum End {
 }
 
 /// Which call of the device fails, if one does.
-#[derive(Clone, Copy, Debug, PartialEq, Eq)]
+#[derive(Clone, Copy, Debug)]
 pub(crate) enum DevicePlan {
     Serves,
     /// The call behind so many fails, and was not made.
@@ -65,7 +65,7 @@ pub(crate) enum DevicePlan {
 }
 
 /// What is drawn before a run.
-#[derive(Debug, Drop)]
+#[derive(Drop)]
 pub(crate) struct Plan {
     pub(crate) seed: u64,
     pub(crate) confs: Confs,
@@ -115,7 +115,10 @@ fn any_confs(alloc: Global, radios: u8, draws: &mut Generator) -> Result<Confs, 
     for place in 0..radios {
         list.push(any_conf(alloc, FIRST_BSSID.wrapping_add(place), draws)?)?;
     }
-    Confs::new(list).map_err(|_| AllocError)
+    match Confs::new(list) {
+        Ok(confs) => Ok(confs),
+        Err(_) => Err(AllocError),
+    }
 }
 
 // The last byte of one of the first so many stations.
@@ -136,6 +139,18 @@ fn any_kind(draws: &mut Generator) -> Kind {
     }
 }
 
+fn add_frame(
+    alloc: Global,
+    kind: Kind,
+    bssid: u8,
+    station: u8,
+    draws: &mut Generator,
+    frames: &mut Vec<Frame>,
+) -> Result<(), AllocError> {
+    let frame = make_frame(alloc, kind, bssid, station, draws)?;
+    Ok(frames.push(frame)?)
+}
+
 // Adds what a station sends next: that it joins, or one frame.
 fn add_frames(
     alloc: Global,
@@ -146,14 +161,11 @@ fn add_frames(
 ) -> Result<(), AllocError> {
     let station = any_station(crowd, draws);
     if draws.hits(3) {
-        for kind in [Kind::Authentication, Kind::Association] {
-            frames.push(make_frame(alloc, kind, bssid, station, draws)?)?;
-        }
-        return Ok(());
+        add_frame(alloc, Kind::Authentication, bssid, station, draws, frames)?;
+        return add_frame(alloc, Kind::Association, bssid, station, draws, frames);
     }
     let kind = any_kind(draws);
-    frames.push(make_frame(alloc, kind, bssid, station, draws)?)?;
-    Ok(())
+    add_frame(alloc, kind, bssid, station, draws, frames)
 }
 
 fn any_fault(draws: &mut Generator) -> RadioFault {
@@ -289,13 +301,28 @@ fn any_end(draws: &mut Generator) -> End {
 }
 
 impl Plan {
+    /// The command of a tag, which is its place.
+    pub(crate) fn command(&self, tag: u64) -> Option<&[u8]> {
+        let place = usize::try_from(tag).unwrap_or(usize::MAX);
+        Some(self.commands.get(place)?.as_slice())
+    }
+
+    // The place of the radio of a BSSID.
+    fn place_of(&self, bssid: Bssid) -> Option<usize> {
+        for (place, radio) in self.radios.iter().enumerate() {
+            if radio.bssid == bssid {
+                return Some(place);
+            }
+        }
+        None
+    }
+
     /// The place of the radio whose interface a command means, if it means one.
     pub(crate) fn meant(&self, command: &[u8]) -> Option<usize> {
         let Parsed::Command { interface, .. } = parse_command(command) else {
             return None;
         };
-        let bssid = self.confs.for_command(interface)?.bssid;
-        self.radios.iter().position(|radio| radio.bssid == bssid)
+        self.place_of(self.confs.for_command(interface)?.bssid)
     }
 
     /// What is drawn from a beginning.

@@ -37,6 +37,12 @@ pub(crate) struct NotedPort<'a, L: Ledger, W: Wait> {
 }
 
 impl<L: Ledger, W: Wait> NotedPort<'_, L, W> {
+    /// Its own seat.
+    pub(crate) fn into_seat(self) -> Seat<L> {
+        let NotedPort { seat, .. } = self;
+        seat
+    }
+
     // Whether all was received and asked.
     fn is_given(&self) -> bool {
         self.stage.done() >= self.plan.radios.len() && self.lane.next() >= self.plan.commands.len()
@@ -114,9 +120,8 @@ impl<L: Ledger, W: Wait> NotedPort<'_, L, W> {
 
     // Notes it of the command of a tag.
     fn look_at(&self, tag: u64) {
-        let place = usize::try_from(tag).unwrap_or(usize::MAX);
-        if let Some(command) = self.plan.commands.get(place) {
-            self.look(command.as_slice());
+        if let Some(command) = self.plan.command(tag) {
+            self.look(command);
         }
     }
 

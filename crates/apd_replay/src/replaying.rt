@@ -11,13 +11,14 @@ use crate::plan::{Plan, RadioPlan, station};
 use crate::radio::NotedRadio;
 use crate::running::{Record, Scene, disk, radios, spares, world};
 use crate::stage::Stage;
+use apd_base::Moment;
 use apd_core::Input;
 use apd_ctrl::{Parsed, Placed, parse_command};
 use apd_disk::MemDisk;
 use apd_mlme::{Out, Recipient};
 use apd_slot::{Mending, Slot};
 use apd_world::{Commit, Reception, Step, Told};
-use std::alloc::Global;
+use std::alloc::{AllocError, Global};
 use std::sync::Wait;
 
 /// How far a replay is.
@@ -78,13 +79,26 @@ fn make<W: Wait>(world: &mut Replayed<'_, W>, step: Step<'_>) -> Result<Told, Fa
     make_step(world, step).ok_or(Fault::NoMemory)
 }
 
+// Submits what the run was given at a moment.
+fn accept<W: Wait>(
+    world: &mut Replayed<'_, W>,
+    input: Input<'_>,
+    moment: Moment,
+) -> Result<Option<Reception>, Fault> {
+    let told = make(world, Step::Accept(input, moment))?;
+    match &told {
+        Told::Accepted(reception) => Ok(Some(*reception)),
+        _ => Ok(None),
+    }
+}
+
 impl<'a, W: Wait> Replay<'a, W> {
     // Submits a frame that became no entry in the run.
     fn submit_quiet(&mut self, quiet: Quiet) -> Result<(), Fault> {
         let lost = Fault::LostFrame(quiet.radio, quiet.place);
         let input = received(self.plan, quiet.radio, quiet.place).ok_or(lost)?;
-        match make(&mut self.world, Step::Accept(input, quiet.moment))? {
-            Told::Accepted(Reception::Quiet(_)) => Ok(()),
+        match accept(&mut self.world, input, quiet.moment)? {
+            Some(Reception::Quiet(_)) => Ok(()),
             _ => Err(lost),
         }
     }
@@ -137,9 +151,8 @@ impl<'a, W: Wait> Replay<'a, W> {
     fn submit(&mut self, number: u64, entry: &Entry) -> Result<(), Fault> {
         let none = Fault::NoEntry(number);
         let input = input_of(self.plan, entry.source).ok_or(none)?;
-        let told = make(&mut self.world, Step::Accept(input, entry.moment))?;
-        match told {
-            Told::Accepted(Reception::Entry(same)) if same == number => Ok(()),
+        match accept(&mut self.world, input, entry.moment)? {
+            Some(Reception::Entry(same)) if same == number => Ok(()),
             _ => Err(none),
         }
     }
@@ -160,14 +173,17 @@ impl<'a, W: Wait> Replay<'a, W> {
         }
     }
 
+    fn compare_each(&mut self, outs: &[Out]) -> Result<(), Fault> {
+        for out in outs {
+            self.compare_reply(out)?;
+        }
+        Ok(())
+    }
+
     fn compare_replies(&mut self) -> Result<(), Fault> {
-        match make(&mut self.world, Step::Hand(Recipient::Control))? {
-            Told::Handed(outs) => {
-                for out in outs.as_slice() {
-                    self.compare_reply(out)?;
-                }
-                Ok(())
-            }
+        let told = make(&mut self.world, Step::Hand(Recipient::Control))?;
+        match &told {
+            Told::Handed(outs) => self.compare_each(outs.as_slice()),
             _ => Err(Fault::NoMemory),
         }
     }
@@ -228,9 +244,17 @@ impl<'a, W: Wait> Replay<'a, W> {
         }
     }
 
+    // Nothing was submitted yet, and no answer found.
+    fn set_up(&mut self) -> Result<(), AllocError> {
+        self.submitted = vec![in self.alloc; false; self.history.quiet.len()]?;
+        self.found = vec![in self.alloc; false; self.history.answers.len()]?;
+        Ok(())
+    }
+
     // Makes the requests that were settled in the run, and hands out; then makes the others.
     fn replay(&mut self, record: &Record) -> Result<(), Fault> {
         let history = self.history;
+        self.set_up()?;
         self.keep_table()?;
         self.hand_out(record.begin)?;
         for (number, entry) in history.entries.iter() {
@@ -284,7 +308,12 @@ impl<'a, W: Wait> Replay<'a, W> {
             return false;
         };
         let from = usize::try_from(settled).unwrap_or(usize::MAX);
-        self.tables.iter().skip(from).any(|table| *table == sum)
+        for table in self.tables.iter().skip(from) {
+            if *table == sum {
+                return true;
+            }
+        }
+        false
     }
 
     // The slots are compared at the end.
@@ -358,8 +387,8 @@ fn not_found(answer: &Answered) -> Fault {
     }
 }
 
-// A slot of a replay.
-fn beside<'a, W: Wait>(
+// Adds a slot of a replay.
+fn add_slot<'a, W: Wait>(
     rt: &'a W,
     alloc: Global,
     stage: &'a Stage,
@@ -369,11 +398,13 @@ fn beside<'a, W: Wait>(
     radio: &'a RadioPlan,
     lane: &'a Lane,
     seeds: &mut Generator,
-) -> Result<Beside<'a, W>, Fault> {
-    let calls = history.calls.get(place).ok_or(Fault::NoThread)?;
-    let end = ends.get(place).ok_or(Fault::NoThread)?;
+    slots: &mut Vec<Beside<'a, W>>,
+) -> Result<(), Fault> {
+    let (Some(calls), Some(end)) = (history.calls.get(place), ends.get(place)) else {
+        return Err(Fault::NoThread);
+    };
     let spares = spares(rt, alloc, stage, radio, lane, seeds, true)?;
-    Ok(Beside {
+    let slot = Beside {
         place,
         radio,
         lane,
@@ -381,7 +412,8 @@ fn beside<'a, W: Wait>(
         end,
         mending: Mending::new(spares),
         is_marked: false,
-    })
+    };
+    Ok(slots.push(slot)?)
 }
 
 // The slots of a replay.
@@ -396,7 +428,7 @@ fn slots<'a, W: Wait>(
     let mut slots = Vec::new(alloc);
     let lanes = scene.plan.radios.iter().zip(scene.lanes);
     for (place, (radio, lane)) in lanes.enumerate() {
-        let slot = beside(
+        add_slot(
             rt,
             alloc,
             scene.stage,
@@ -406,8 +438,8 @@ fn slots<'a, W: Wait>(
             radio,
             lane,
             seeds,
+            &mut slots,
         )?;
-        slots.push(slot)?;
     }
     Ok(slots)
 }
@@ -440,8 +472,6 @@ fn begin<'a, W: Wait>(
     ends: &'a [SlotEnd],
 ) -> Result<Replay<'a, W>, Fault> {
     let mut seeds = Generator::new(0);
-    let found = vec![in alloc; false; history.answers.len()]?;
-    let submitted = vec![in alloc; false; history.quiet.len()]?;
     let world = begin_world(rt, alloc, scene, image, &mut seeds)?;
     match slots(rt, alloc, scene, history, ends, &mut seeds) {
         Ok(slots) => Ok(Replay {
@@ -451,9 +481,9 @@ fn begin<'a, W: Wait>(
             history,
             world,
             slots,
-            submitted,
+            submitted: Vec::new(alloc),
             replied: 0,
-            found,
+            found: Vec::new(alloc),
             tables: Vec::new(alloc),
         }),
         Err(fault) => {

@@ -11,7 +11,7 @@ use crate::frames::{FIRST_STATION, STATIONS};
 use crate::gate::{NotedClock, NotedGate, TickClock};
 use crate::generator::{Generator, Shaker};
 use crate::notes::Lane;
-use crate::plan::{End, Plan, RadioPlan, station};
+use crate::plan::{End, Faults, Plan, RadioPlan, station};
 use crate::port::NotedPort;
 use crate::radio::{Feed, Noted, NotedRadio};
 use crate::stage::Stage;
@@ -71,6 +71,32 @@ pub(crate) fn disk(alloc: Global, image: &[u8]) -> Result<MemDisk, AllocError> {
     MemDisk::new(alloc, Vec::from_slice(alloc, image)?)
 }
 
+fn feed<'a>(stage: &'a Stage, radio: &'a RadioPlan, replays: bool) -> Option<Feed<'a>> {
+    if replays {
+        return None;
+    }
+    Some(Feed {
+        stage,
+        frames: radio.frames.as_slice(),
+    })
+}
+
+// Adds the radio of this number among those of a slot, which fails so.
+fn add_noted<'a, W: Wait>(
+    rt: &'a W,
+    alloc: Global,
+    lane: &'a Lane,
+    seeds: &mut Generator,
+    number: usize,
+    faults: Faults,
+    feed: Option<Feed<'a>>,
+    radios: &mut Vec<NotedRadio<'a, W>>,
+) -> Result<(), AllocError> {
+    let (inner, seed) = (Sim::new(alloc), seeds.number());
+    let radio = Noted::new(rt, alloc, inner, lane, seed, number, faults, feed);
+    Ok(radios.push(radio)?)
+}
+
 /// The radio of each slot, with what it receives; in a replay nothing.
 pub(crate) fn radios<'a, W: Wait>(
     rt: &'a W,
@@ -82,28 +108,9 @@ pub(crate) fn radios<'a, W: Wait>(
     let mut radios = Vec::new(alloc);
     for (radio, lane) in scene.plan.radios.iter().zip(scene.lanes) {
         let feed = feed(scene.stage, radio, replays);
-        radios.push(Noted::new(
-            rt,
-            alloc,
-            Sim::new(alloc),
-            lane,
-            seeds.number(),
-            0,
-            radio.own,
-            feed,
-        ))?;
+        add_noted(rt, alloc, lane, seeds, 0, radio.own, feed, &mut radios)?;
     }
     Ok(radios)
-}
-
-fn feed<'a>(stage: &'a Stage, radio: &'a RadioPlan, replays: bool) -> Option<Feed<'a>> {
-    if replays {
-        return None;
-    }
-    Some(Feed {
-        stage,
-        frames: radio.frames.as_slice(),
-    })
 }
 
 /// The radios that stand by at a slot.
@@ -120,16 +127,7 @@ pub(crate) fn spares<'a, W: Wait>(
     for (place, faults) in radio.spares.iter().enumerate() {
         let number = place.wrapping_add(1);
         let feed = feed(stage, radio, replays);
-        spares.push(Noted::new(
-            rt,
-            alloc,
-            Sim::new(alloc),
-            lane,
-            seeds.number(),
-            number,
-            *faults,
-            feed,
-        ))?;
+        add_noted(rt, alloc, lane, seeds, number, *faults, feed, &mut spares)?;
     }
     Ok(spares)
 }
@@ -146,12 +144,12 @@ fn started<D: Disk + Drop, R: Radio>(world: World<D, R>) -> Result<World<D, R>, 
 }
 
 // The world of a store, with the slots of these radios, started.
-fn world_of<'a, D: Disk + Drop, W: Wait>(
+fn world_of<D: Disk + Drop, R: Radio>(
     alloc: Global,
     disk: D,
     confs: Confs,
-    radios: Vec<NotedRadio<'a, W>>,
-) -> Result<World<D, NotedRadio<'a, W>>, Fault> {
+    radios: Vec<R>,
+) -> Result<World<D, R>, Fault> {
     let slots = match slots_for(alloc, &confs, radios) {
         Ok(slots) => slots,
         Err(error) => {
@@ -167,12 +165,12 @@ fn world_of<'a, D: Disk + Drop, W: Wait>(
 }
 
 /// The world of a store, with these radios, started.
-pub(crate) fn world<'a, D: Disk + Drop, W: Wait>(
+pub(crate) fn world<D: Disk + Drop, R: Radio>(
     alloc: Global,
     disk: D,
     plan: &Plan,
-    radios: Vec<NotedRadio<'a, W>>,
-) -> Result<World<D, NotedRadio<'a, W>>, Fault> {
+    radios: Vec<R>,
+) -> Result<World<D, R>, Fault> {
     match plan.confs.copy(alloc) {
         Ok(confs) => world_of(alloc, disk, confs, radios),
         Err(error) => {
@@ -246,27 +244,20 @@ fn seat_and_spares<'a, L: Ledger, W: Wait>(
 // The worker of a radio.
 fn radio_part<'a, L: Ledger, W: Wait>(
     rt: &'a W,
-    alloc: Global,
     shared: &'a Shared<L>,
     scene: Scene<'a>,
-    radio: &'a RadioPlan,
     lane: &'a Lane,
+    seat: Seat<L>,
     slot: Slot<NotedRadio<'a, W>>,
+    spares: Vec<NotedRadio<'a, W>>,
     seeds: &mut Generator,
-) -> Result<Worker<'a, L, W>, Fault> {
-    shared.note(rt, slot.bssid(), slot.is_up());
-    match seat_and_spares(rt, alloc, shared, scene, radio, lane, seeds) {
-        Ok((seat, spares)) => Ok(Worker::Radio(RadioPart {
-            seat,
-            slot,
-            spares,
-            clock: clock(rt, scene, lane, seeds),
-            gate: gate(rt, shared, scene, lane, seeds),
-        })),
-        Err(fault) => {
-            drop(slot);
-            Err(fault)
-        }
+) -> RadioPart<'a, L, W> {
+    RadioPart {
+        seat,
+        slot,
+        spares,
+        clock: clock(rt, scene, lane, seeds),
+        gate: gate(rt, shared, scene, lane, seeds),
     }
 }
 
@@ -282,6 +273,7 @@ fn both_seats<L: Ledger, W: Wait>(rt: &W, shared: &Shared<L>) -> Result<(Seat<L>
     }
 }
 
+// The worker of the port.
 fn control_part<'a, L: Ledger, W: Wait>(
     rt: &'a W,
     alloc: Global,
@@ -289,7 +281,7 @@ fn control_part<'a, L: Ledger, W: Wait>(
     scene: Scene<'a>,
     lane: &'a Lane,
     seeds: &mut Generator,
-) -> Result<Worker<'a, L, W>, Fault> {
+) -> Result<PortPart<'a, L, W>, Fault> {
     let (seat, of_port) = both_seats(rt, shared)?;
     let port = NotedPort {
         rt,
@@ -305,23 +297,21 @@ fn control_part<'a, L: Ledger, W: Wait>(
         last_polls: 0,
         told: None,
     };
-    Ok(Worker::Control(PortPart {
+    Ok(PortPart {
         seat,
         port,
         clock: clock(rt, scene, lane, seeds),
         gate: gate(rt, shared, scene, lane, seeds),
-    }))
+    })
 }
 
-fn tick_part<'a, L: Ledger, W: Wait>(
+fn tick_clock<'a, W: Wait>(
     rt: &'a W,
-    shared: &'a Shared<L>,
     scene: Scene<'a>,
     lane: &'a Lane,
     seeds: &mut Generator,
-) -> Result<Worker<'a, L, W>, Fault> {
-    let seat = seat(rt, shared)?;
-    let clock = TickClock {
+) -> TickClock<'a, W> {
+    TickClock {
         rt,
         stage: scene.stage,
         lane,
@@ -329,9 +319,28 @@ fn tick_part<'a, L: Ledger, W: Wait>(
         ticks: scene.plan.ticks,
         radios: scene.plan.radios.len(),
         asked: AtomicU64::new(0),
+    }
+}
+
+fn add<T: Drop>(workers: &mut Vec<T>, worker: T) -> Result<(), Fault> {
+    Ok(workers.push(worker)?)
+}
+
+// Adds the worker that commits.
+fn add_committing<'a, L: Ledger, W: Wait>(
+    rt: &'a W,
+    shared: &'a Shared<L>,
+    scene: Scene<'a>,
+    flusher: Flusher<Device<'a, W>>,
+    seeds: &mut Generator,
+    workers: &mut Vec<Worker<'a, L, W>>,
+) -> Result<(), Fault> {
+    let Some(lane) = scene.lanes.last() else {
+        drop(flusher);
+        return Err(Fault::NoThread);
     };
     let gate = gate(rt, shared, scene, lane, seeds);
-    Ok(Worker::Ticks(seat, clock, gate))
+    add(workers, Worker::Committing(Committer::new(flusher), gate))
 }
 
 // Adds the worker of a radio.
@@ -341,22 +350,26 @@ fn add_radio<'a, L: Ledger, W: Wait>(
     shared: &'a Shared<L>,
     scene: Scene<'a>,
     radio: &'a RadioPlan,
-    lane: Option<&'a Lane>,
+    lane: &'a Lane,
     slot: Slot<NotedRadio<'a, W>>,
     seeds: &mut Generator,
     workers: &mut Vec<Worker<'a, L, W>>,
 ) -> Result<(), Fault> {
-    let Some(lane) = lane else {
-        drop(slot);
-        return Err(Fault::NoThread);
-    };
-    let part = radio_part(rt, alloc, shared, scene, radio, lane, slot, seeds)?;
-    workers.push(part)?;
-    Ok(())
+    shared.note(rt, slot.bssid(), slot.is_up());
+    match seat_and_spares(rt, alloc, shared, scene, radio, lane, seeds) {
+        Ok((seat, spares)) => {
+            let part = radio_part(rt, shared, scene, lane, seat, slot, spares, seeds);
+            add(workers, Worker::Radio(part))
+        }
+        Err(fault) => {
+            drop(slot);
+            Err(fault)
+        }
+    }
 }
 
-// Adds the workers of the port, of ticks and of the radios.
-fn add_others<'a, L: Ledger, W: Wait>(
+// Adds the workers of the radios.
+fn add_radios<'a, L: Ledger, W: Wait>(
     rt: &'a W,
     alloc: Global,
     shared: &'a Shared<L>,
@@ -365,35 +378,50 @@ fn add_others<'a, L: Ledger, W: Wait>(
     seeds: &mut Generator,
     workers: &mut Vec<Worker<'a, L, W>>,
 ) -> Result<(), Fault> {
-    let mut lanes = scene.lanes.iter();
-    for (slot, radio) in slots.into_iter().zip(scene.plan.radios.iter()) {
-        let lane = lanes.next();
+    let places = scene.plan.radios.iter().zip(scene.lanes);
+    for (slot, (radio, lane)) in slots.into_iter().zip(places) {
         add_radio(rt, alloc, shared, scene, radio, lane, slot, seeds, workers)?;
     }
-    let lane = lanes.next().ok_or(Fault::NoThread)?;
-    workers.push(control_part(rt, alloc, shared, scene, lane, seeds)?)?;
-    let lane = lanes.next().ok_or(Fault::NoThread)?;
-    workers.push(tick_part(rt, shared, scene, lane, seeds)?)?;
     Ok(())
 }
 
-// The worker that commits, alone.
-fn committing<'a, L: Ledger, W: Wait>(
+// Adds the workers of the port and of ticks.
+fn add_others<'a, L: Ledger, W: Wait>(
+    rt: &'a W,
+    alloc: Global,
+    shared: &'a Shared<L>,
+    scene: Scene<'a>,
+    seeds: &mut Generator,
+    workers: &mut Vec<Worker<'a, L, W>>,
+) -> Result<(), Fault> {
+    let mut lanes = scene.lanes.iter().skip(scene.plan.radios.len());
+    let lane = lanes.next().ok_or(Fault::NoThread)?;
+    let part = control_part(rt, alloc, shared, scene, lane, seeds)?;
+    add(workers, Worker::Control(part))?;
+    let lane = lanes.next().ok_or(Fault::NoThread)?;
+    let seat = seat(rt, shared)?;
+    let clock = tick_clock(rt, scene, lane, seeds);
+    let gate = gate(rt, shared, scene, lane, seeds);
+    add(workers, Worker::Ticks(seat, clock, gate))
+}
+
+// Adds the workers: the first one commits.
+fn add_all<'a, L: Ledger, W: Wait>(
     rt: &'a W,
     alloc: Global,
     shared: &'a Shared<L>,
     scene: Scene<'a>,
     flusher: Flusher<Device<'a, W>>,
+    slots: Vec<Slot<NotedRadio<'a, W>>>,
     seeds: &mut Generator,
-) -> Result<Vec<Worker<'a, L, W>>, Fault> {
-    let Some(lane) = scene.lanes.last() else {
-        drop(flusher);
-        return Err(Fault::NoThread);
-    };
-    let gate = gate(rt, shared, scene, lane, seeds);
-    let mut workers = Vec::new(alloc);
-    workers.push(Worker::Committing(Committer::new(flusher), gate))?;
-    Ok(workers)
+    workers: &mut Vec<Worker<'a, L, W>>,
+) -> Result<(), Fault> {
+    if let Err(fault) = add_committing(rt, shared, scene, flusher, seeds, workers) {
+        drop(slots);
+        return Err(fault);
+    }
+    add_radios(rt, alloc, shared, scene, slots, seeds, workers)?;
+    add_others(rt, alloc, shared, scene, seeds, workers)
 }
 
 // The workers: the first one commits.
@@ -406,14 +434,17 @@ fn crew<'a, L: Ledger, W: Wait>(
     slots: Vec<Slot<NotedRadio<'a, W>>>,
     seeds: &mut Generator,
 ) -> Result<Vec<Worker<'a, L, W>>, Fault> {
-    let mut workers = match committing(rt, alloc, shared, scene, flusher, seeds) {
-        Ok(workers) => workers,
-        Err(fault) => {
-            drop(slots);
-            return Err(fault);
-        }
-    };
-    match add_others(rt, alloc, shared, scene, slots, seeds, &mut workers) {
+    let mut workers = Vec::new(alloc);
+    match add_all(
+        rt,
+        alloc,
+        shared,
+        scene,
+        flusher,
+        slots,
+        seeds,
+        &mut workers,
+    ) {
         Ok(()) => Ok(workers),
         Err(fault) => {
             drop(workers);
@@ -469,6 +500,15 @@ fn all_associations(alloc: Global, core: &Core) -> Result<Vec<Vec<Option<u16>>>,
     Ok(all)
 }
 
+// The sum of a core's table, and the associations there.
+fn sum_and_associations(
+    alloc: Global,
+    core: &Core,
+) -> Result<(u64, Vec<Vec<Option<u16>>>), AllocError> {
+    let sum = digest_of(alloc, core.table())?;
+    Ok((sum, all_associations(alloc, core)?))
+}
+
 // What is kept of a core and of what was left.
 fn keep(
     alloc: Global,
@@ -477,15 +517,21 @@ fn keep(
     entries: u64,
     slots: Vec<SlotEnd>,
 ) -> Result<Record, Fault> {
-    Ok(Record {
-        begin,
-        entries,
-        number: core.number(),
-        table: digest_of(alloc, core.table())?,
-        failed: core.has_failed(),
-        slots,
-        associated: all_associations(alloc, core)?,
-    })
+    match sum_and_associations(alloc, core) {
+        Ok((table, associated)) => Ok(Record {
+            begin,
+            entries,
+            number: core.number(),
+            table,
+            failed: core.has_failed(),
+            slots,
+            associated,
+        }),
+        Err(error) => {
+            drop(slots);
+            Err(error.into())
+        }
+    }
 }
 
 // What is kept, with what the device holds.

@@ -8,7 +8,7 @@ use std::sync::Wait;
 use std::{fmt, io};
 
 /// What runs came to, in all.
-#[derive(Clone, Copy, Debug)]
+#[derive(Clone, Copy)]
 pub(crate) struct Sums {
     runs: u64,
     failed: u64,

@@ -21,7 +21,27 @@ fn image(alloc: Global) -> Option<Vec<u8>> {
     Vec::from_slice(alloc, disk.bytes()).ok()
 }
 
-// Replays a run with logs of its own.
+// Replays a history with logs of its own.
+fn replay_history<W: Host>(
+    rt: &W,
+    alloc: Global,
+    plan: &Plan,
+    image: &[u8],
+    history: &History,
+    record: &Record,
+    left: Result<u64, Fault>,
+) -> Result<(), Fault> {
+    let lanes = lanes(alloc, plan)?;
+    let stage = Stage::new();
+    let beside = Scene {
+        plan,
+        stage: &stage,
+        lanes: lanes.as_slice(),
+    };
+    compare(rt, alloc, beside, image, history, record, left)
+}
+
+// Replays a run.
 fn replay<W: Host>(
     rt: &W,
     alloc: Global,
@@ -33,14 +53,7 @@ fn replay<W: Host>(
 ) -> Result<(), Fault> {
     let history = History::read(rt, alloc, scene.plan, scene.lanes, record)?;
     sums.add(record, &history);
-    let lanes = lanes(alloc, scene.plan)?;
-    let stage = Stage::new();
-    let beside = Scene {
-        plan: scene.plan,
-        stage: &stage,
-        lanes: lanes.as_slice(),
-    };
-    compare(rt, alloc, beside, image, &history, record, left)
+    replay_history(rt, alloc, scene.plan, image, &history, record, left)
 }
 
 // Makes a run, and compares it with its replay.

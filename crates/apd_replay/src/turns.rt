@@ -3,7 +3,7 @@ use crate::fault::Fault;
 use crate::notes::Note;
 
 // How far its notes were read.
-#[derive(Clone, Copy, Debug)]
+#[derive(Clone, Copy)]
 struct Turns {
     // Whether there was a turn: the device's calls before that are the start's.
     any: bool,
