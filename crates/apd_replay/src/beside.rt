@@ -32,7 +32,8 @@ pub(crate) struct Beside<'a, W: Wait> {
     pub(crate) is_marked: bool,
 }
 
-// Applies the first out that waits at a slot, if one does.
+// Applies the first out that waits at a slot. Gives back what the slot answered; none where no out waits, or memory ran
+// out.
 fn apply<W: Wait>(world: &mut Replayed<'_, W>, bssid: Bssid) -> Option<Result<(), SlotFault>> {
     let told = make_step(world, Step::Apply(bssid));
     match &told {

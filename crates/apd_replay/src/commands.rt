@@ -62,7 +62,7 @@ impl PortReading<'_> {
         })
     }
 
-    // The command of a tag, which was not replied to before.
+    // The command of a tag, if it was not replied to before; it is from now on.
     fn reply_to(&mut self, tag: u64) -> Option<Command> {
         let place = usize::try_from(tag).unwrap_or(usize::MAX);
         match self.commands.get_mut(place) {
@@ -132,12 +132,12 @@ impl History {
     // Adds the reply to an order, or compares it with that to one that became no entry.
     fn add_order_reply(
         &mut self,
-        is_entry: bool,
+        command: Command,
         failed: bool,
         tag: u64,
         text: u64,
     ) -> Result<(), Fault> {
-        if is_entry {
+        if command.is_entry {
             return Ok(self.replies.push((tag, text))?);
         }
         if failed {
@@ -155,7 +155,7 @@ impl History {
         };
         match wanted_reply(port.plan, bytes, steadily_up(command.seen, seen)) {
             Wanted::Text(wanted) => check_same(tag, text, digest(wanted)),
-            Wanted::Order => self.add_order_reply(command.is_entry, port.failed, tag, text),
+            Wanted::Order => self.add_order_reply(command, port.failed, tag, text),
             Wanted::Answer(queries) => {
                 let answer = Answered {
                     command: Some(tag),

@@ -71,12 +71,8 @@ impl<L: Ledger> Left<L> {
 
     // Adds the seats of the worker of the port: its own, and the port's.
     fn add_both(&mut self, own: Seat<L>, of_port: Seat<L>) -> Result<(), AllocError> {
-        self.seats.push(own)?;
+        self.add_seat(own)?;
         self.add_seat(of_port)
-    }
-
-    fn set_disk(&mut self, disk: MemDisk) {
-        self.disk = Some(disk);
     }
 }
 
@@ -250,7 +246,7 @@ fn end<L: Ledger, W: Wait + Clock>(
 ) -> Result<(), AllocError> {
     match worker {
         Worker::Committing(committer, gate) => {
-            left.set_disk(commit_end(rt, shared, committer, gate));
+            left.disk = Some(commit_end(rt, shared, committer, gate));
             Ok(())
         }
         Worker::Radio(part) => radio_end(rt, alloc, shared, part, left),

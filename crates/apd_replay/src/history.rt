@@ -373,8 +373,8 @@ fn check_radio(reading: &Reading) -> Result<(), Fault> {
     check_rise(reading)
 }
 
-// Adds what the notes of a radio say.
-fn add_reading(readings: &mut Vec<Reading>, reading: Reading) -> Result<(), Fault> {
+// Adds a radio's reading, if its frames and numbers are in order.
+fn add_checked(readings: &mut Vec<Reading>, reading: Reading) -> Result<(), Fault> {
     match check_radio(&reading) {
         Ok(()) => Ok(readings.push(reading)?),
         Err(fault) => {
@@ -406,7 +406,7 @@ fn read_radios(
     let mut readings = Vec::new(alloc);
     for (place, (lane, slot)) in lanes.iter().zip(record.slots.iter()).enumerate() {
         let reading = read_radio(rt, alloc, place, lane, slot.mark.notes)?;
-        add_reading(&mut readings, reading)?;
+        add_checked(&mut readings, reading)?;
     }
     Ok(readings)
 }
@@ -508,7 +508,7 @@ impl History {
         Ok(())
     }
 
-    // Adds what these and the other notes say.
+    // Adds what the radios' notes and the others say, and then the drivers' calls.
     fn add_readings(
         &mut self,
         rt: &impl Wait,

@@ -37,7 +37,7 @@ pub(crate) struct NotedPort<'a, L: Ledger, W: Wait> {
 }
 
 impl<L: Ledger, W: Wait> NotedPort<'_, L, W> {
-    /// Its own seat.
+    /// The port's seat.
     pub(crate) fn into_seat(self) -> Seat<L> {
         let NotedPort { seat, .. } = self;
         seat

@@ -79,7 +79,7 @@ fn make<W: Wait>(world: &mut Replayed<'_, W>, step: Step<'_>) -> Result<Told, Fa
     make_step(world, step).ok_or(Fault::NoMemory)
 }
 
-// Submits what the run was given at a moment.
+// Submits what the run was given at a moment. Gives back how it was received; none where memory ran out.
 fn accept<W: Wait>(
     world: &mut Replayed<'_, W>,
     input: Input<'_>,
@@ -136,7 +136,7 @@ impl<'a, W: Wait> Replay<'a, W> {
     fn submit_all_quiet(&mut self, number: u64) -> Result<(), Fault> {
         let history = self.history;
         for (place, quiet) in history.quiet.values().enumerate() {
-            if self.submitted.get(place).copied().unwrap_or(true) {
+            if self.submitted.get(place).copied().unwrap_or(false) {
                 continue;
             }
             let submitted = self.try_quiet(*quiet, number)?;
@@ -173,7 +173,7 @@ impl<'a, W: Wait> Replay<'a, W> {
         }
     }
 
-    fn compare_each(&mut self, outs: &[Out]) -> Result<(), Fault> {
+    fn compare_each_reply(&mut self, outs: &[Out]) -> Result<(), Fault> {
         for out in outs {
             self.compare_reply(out)?;
         }
@@ -183,7 +183,7 @@ impl<'a, W: Wait> Replay<'a, W> {
     fn compare_replies(&mut self) -> Result<(), Fault> {
         let told = make(&mut self.world, Step::Hand(Recipient::Control))?;
         match &told {
-            Told::Handed(outs) => self.compare_each(outs.as_slice()),
+            Told::Handed(outs) => self.compare_each_reply(outs.as_slice()),
             _ => Err(Fault::NoMemory),
         }
     }
@@ -203,7 +203,7 @@ impl<'a, W: Wait> Replay<'a, W> {
     fn find_answers(&mut self, number: u64) -> Result<(), Fault> {
         let history = self.history;
         for (place, answer) in history.answers.iter().enumerate() {
-            let known = self.found.get(place).copied().unwrap_or(true);
+            let known = self.found.get(place).copied().unwrap_or(false);
             if known || number < answer.from || number > answer.to {
                 continue;
             }
@@ -276,8 +276,8 @@ impl<'a, W: Wait> Replay<'a, W> {
         if let Some(reply) = self.history.replies.get(self.replied) {
             return Err(Fault::OtherReply(reply.0));
         }
-        for (answer, found) in self.history.answers.iter().zip(self.found.iter()) {
-            if !*found {
+        for (place, answer) in self.history.answers.iter().enumerate() {
+            if !self.found.get(place).copied().unwrap_or(false) {
                 return Err(not_found(answer));
             }
         }

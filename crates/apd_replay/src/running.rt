@@ -81,7 +81,7 @@ fn feed<'a>(stage: &'a Stage, radio: &'a RadioPlan, replays: bool) -> Option<Fee
     })
 }
 
-// Adds the radio of this number among those of a slot, which fails so.
+// Adds the radio of this number of its slot, whose driver fails by this plan.
 fn add_noted<'a, W: Wait>(
     rt: &'a W,
     alloc: Global,
@@ -241,7 +241,7 @@ fn seat_and_spares<'a, L: Ledger, W: Wait>(
     }
 }
 
-// The worker of a radio.
+// What the worker of a radio has.
 fn radio_part<'a, L: Ledger, W: Wait>(
     rt: &'a W,
     shared: &'a Shared<L>,
@@ -273,7 +273,7 @@ fn both_seats<L: Ledger, W: Wait>(rt: &W, shared: &Shared<L>) -> Result<(Seat<L>
     }
 }
 
-// The worker of the port.
+// What the worker of the port has.
 fn control_part<'a, L: Ledger, W: Wait>(
     rt: &'a W,
     alloc: Global,
@@ -322,7 +322,11 @@ fn tick_clock<'a, W: Wait>(
     }
 }
 
-fn add<T: Drop>(workers: &mut Vec<T>, worker: T) -> Result<(), Fault> {
+// Adds a worker behind the others.
+fn add_worker<'a, L: Ledger, W: Wait>(
+    workers: &mut Vec<Worker<'a, L, W>>,
+    worker: Worker<'a, L, W>,
+) -> Result<(), Fault> {
     Ok(workers.push(worker)?)
 }
 
@@ -340,7 +344,7 @@ fn add_committing<'a, L: Ledger, W: Wait>(
         return Err(Fault::NoThread);
     };
     let gate = gate(rt, shared, scene, lane, seeds);
-    add(workers, Worker::Committing(Committer::new(flusher), gate))
+    add_worker(workers, Worker::Committing(Committer::new(flusher), gate))
 }
 
 // Adds the worker of a radio.
@@ -359,7 +363,7 @@ fn add_radio<'a, L: Ledger, W: Wait>(
     match seat_and_spares(rt, alloc, shared, scene, radio, lane, seeds) {
         Ok((seat, spares)) => {
             let part = radio_part(rt, shared, scene, lane, seat, slot, spares, seeds);
-            add(workers, Worker::Radio(part))
+            add_worker(workers, Worker::Radio(part))
         }
         Err(fault) => {
             drop(slot);
@@ -397,12 +401,12 @@ fn add_others<'a, L: Ledger, W: Wait>(
     let mut lanes = scene.lanes.iter().skip(scene.plan.radios.len());
     let lane = lanes.next().ok_or(Fault::NoThread)?;
     let part = control_part(rt, alloc, shared, scene, lane, seeds)?;
-    add(workers, Worker::Control(part))?;
+    add_worker(workers, Worker::Control(part))?;
     let lane = lanes.next().ok_or(Fault::NoThread)?;
     let seat = seat(rt, shared)?;
     let clock = tick_clock(rt, scene, lane, seeds);
     let gate = gate(rt, shared, scene, lane, seeds);
-    add(workers, Worker::Ticks(seat, clock, gate))
+    add_worker(workers, Worker::Ticks(seat, clock, gate))
 }
 
 // Adds the workers: the first one commits.
@@ -435,7 +439,7 @@ fn crew<'a, L: Ledger, W: Wait>(
     seeds: &mut Generator,
 ) -> Result<Vec<Worker<'a, L, W>>, Fault> {
     let mut workers = Vec::new(alloc);
-    match add_all(
+    let added = add_all(
         rt,
         alloc,
         shared,
@@ -444,7 +448,8 @@ fn crew<'a, L: Ledger, W: Wait>(
         slots,
         seeds,
         &mut workers,
-    ) {
+    );
+    match added {
         Ok(()) => Ok(workers),
         Err(fault) => {
             drop(workers);
