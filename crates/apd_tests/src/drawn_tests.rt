@@ -4,7 +4,7 @@ use crate::good::{COMMANDS, CONFS, FRAMES, LISTS, RECORDS};
 use apd_base::{Addr, Bssid};
 use apd_conf::{read_conf, read_list};
 use apd_ctrl::{Parsed, parse_command};
-use apd_frame::{Association, Authentication, Frame, Probe, Reassociation, decode};
+use apd_frame::{Frame, decode};
 use apd_record::{read_all, write};
 use std::alloc::{AllocError, Global};
 use std::process::Abort;
@@ -61,45 +61,23 @@ fn lies(bytes: &[u8], place: usize, addr: Addr) -> bool {
 // elements behind them.
 fn has_its_fields(bytes: &[u8], frame: Frame<'_>) -> bool {
     let fixed = match frame {
-        Frame::Auth(
-            Authentication {
-                algorithm,
-                transaction,
-                status,
-                ..
-            },
-        ) => {
-            stands(bytes, 24, algorithm)
-                && stands(bytes, 26, transaction)
-                && stands(bytes, 28, status)
+        Frame::Auth(fields) => {
+            stands(bytes, 24, fields.algorithm)
+                && stands(bytes, 26, fields.transaction)
+                && stands(bytes, 28, fields.status)
         }
-        Frame::Assoc(
-            Association {
-                capability,
-                listen_interval,
-                elements,
-                ..
-            },
-        ) => {
-            stands(bytes, 24, capability)
-                && stands(bytes, 26, listen_interval)
-                && bytes.get(28..) == Some(elements)
+        Frame::Assoc(fields) => {
+            stands(bytes, 24, fields.capability)
+                && stands(bytes, 26, fields.listen_interval)
+                && bytes.get(28..) == Some(fields.elements)
         }
-        Frame::Reassoc(
-            Reassociation {
-                capability,
-                listen_interval,
-                current_ap,
-                elements,
-                ..
-            },
-        ) => {
-            stands(bytes, 24, capability)
-                && stands(bytes, 26, listen_interval)
-                && lies(bytes, 28, current_ap)
-                && bytes.get(34..) == Some(elements)
+        Frame::Reassoc(fields) => {
+            stands(bytes, 24, fields.capability)
+                && stands(bytes, 26, fields.listen_interval)
+                && lies(bytes, 28, fields.current_ap)
+                && bytes.get(34..) == Some(fields.elements)
         }
-        Frame::Probe(Probe { elements, .. }) => bytes.get(24..) == Some(elements),
+        Frame::Probe(fields) => bytes.get(24..) == Some(fields.elements),
         Frame::Disassoc { reason, .. } | Frame::Deauth { reason, .. } => stands(
             bytes, 24, reason.0,
         ),

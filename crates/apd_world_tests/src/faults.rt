@@ -38,10 +38,10 @@
 //! | `upgrade` | `the_bytes_of_a_copy`, `apd_device_tests` |
 //! | `Flusher::{new, load, commit}` | `the_bytes_of_two_commits`, `apd_device_tests` |
 //! | `Committer::load` | `a_batch_waits_until_the_one_in_flight_is_published`, `apd_device_tests` |
-//! | `Replaying::new`, `Call::read` in it, `install` of each radio | `each_kind_in_a_box`, `apd_device_tests` |
+//! | `Replaying::new`, `Call::read` in it, `install` of each radio | `each_kind_in_a_box`, `apd_radio_tests` |
 //! | `Identifiers::insert` | `identifiers_are_kept_by_address`, here |
-//! | `Recording`, its calls | `a_recording_has_a_line_for_each_call`, `apd_device_tests` |
-//! | `UdpSim::{new, poll}`, `Datagrams::{bind, receive}` in them | `datagrams_of_every_length`, `apd_device_tests` |
+//! | `Recording`, its calls | `a_recording_has_a_line_for_each_call`, `apd_radio_tests` |
+//! | `UdpSim::{new, poll}`, `Datagrams::{bind, receive}` in them | `datagrams_of_every_length`, `apd_radio_tests` |
 //! | `Slot::{make_room, apply_next}` | `outs_are_applied_in_the_order_in_which_they_were_queued`, the same |
 //! | `Slot::apply` | `what_a_slot_applies_is_recorded`, the same |
 //! | `Slot::poll` | `a_slot_gives_what_its_radio_received`, the same |
