@@ -1,6 +1,7 @@
 //! Entries, batches, receipts and what is handed out, in rows. Where an allocation fails
 //! (`rt try --test --fail-alloc N`) each step is done once more, and tells the same.
 use crate::common::{ASSOCIATION, AUTHENTICATION, RADIO};
+use crate::expect::expect;
 use crate::steps::{Step, otherwise};
 use apd_mlme::Recipient;
 
@@ -39,7 +40,7 @@ fn as_many_entries_are_kept_as_may_be(rt: HostRuntime) {
         (1, TO_RADIO, ("outs", 4096)),
         (1, SHORT, ("quiet", 0)),
     ];
-    assert_eq!(rt; otherwise(rt.alloc(), &rows), None);
+    expect(&rt, otherwise(rt.alloc(), &rows), None);
 }
 
 // A start has no out.
@@ -55,7 +56,7 @@ fn an_entry_without_outs_goes_once_it_is_settled(rt: HostRuntime) {
         (1, AUTHENTICATE, ("entry", 4097)),
         (1, SHORT, ("quiet", 0)),
     ];
-    assert_eq!(rt; otherwise(rt.alloc(), &rows), None);
+    expect(&rt, otherwise(rt.alloc(), &rows), None);
 }
 
 #[test]
@@ -78,7 +79,7 @@ fn a_receipt_is_that_of_the_batch_in_flight(rt: HostRuntime) {
         (1, TO_RADIO, ("outs", 0)),
         (1, Step::Take, ("batch", 3)),
     ];
-    assert_eq!(rt; otherwise(rt.alloc(), &rows), None);
+    expect(&rt, otherwise(rt.alloc(), &rows), None);
 }
 
 #[test]
@@ -100,5 +101,5 @@ fn a_station_is_told_as_it_was_settled(rt: HostRuntime) {
         (1, Step::First, ("associated", 3)),
         (1, TO_RADIO, ("outs", 2)),
     ];
-    assert_eq!(rt; otherwise(rt.alloc(), &rows), None);
+    expect(&rt, otherwise(rt.alloc(), &rows), None);
 }

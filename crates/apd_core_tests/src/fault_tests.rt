@@ -1,4 +1,5 @@
 //! Calls of a switch that fail, and an epoch that has no next one.
+use crate::expect::expect;
 use crate::halves::{AUTHENTICATED, POLICY, both_open, device, flusher, full, load_and_turn, show};
 use apd_disk::{Disk, MemDisk, OnceDisk, Torn};
 use apd_flusher::Flusher;
@@ -54,7 +55,7 @@ fn each_of_ten_calls_fails_once(rt: HostRuntime) {
     let alloc = rt.alloc();
     for calls in 0..9 {
         let found = show(alloc, fail_once(alloc, calls, Torn::New));
-        assert_eq!(rt; found, "before", "behind {calls}");
+        expect(&rt, (calls, found), (calls, "before"));
     }
     for (calls, torn, is) in [
         (0, Torn::Byte(1), "before"),
@@ -65,7 +66,7 @@ fn each_of_ten_calls_fails_once(rt: HostRuntime) {
         (10, Torn::New, "no device"),
     ] {
         let found = show(alloc, fail_once(alloc, calls, torn));
-        assert_eq!(rt; found, is, "{torn:?} behind {calls}");
+        expect(&rt, (calls, torn, found), (calls, torn, is));
     }
 }
 
@@ -90,9 +91,7 @@ fn refusal_when_worn(alloc: Global, epoch: u64) -> Option<(StoreFault, usize)> {
 #[test]
 fn the_last_epoch_has_no_next_one(rt: HostRuntime) {
     let alloc = rt.alloc();
-    assert_eq!(rt;
-        refusal_when_worn(alloc, u64::MAX),
-        Some((StoreFault::Worn, 2))
-    );
-    assert_eq!(rt; refusal_when_worn(alloc, u64::MAX - 1), None);
+    let refusal = refusal_when_worn(alloc, u64::MAX);
+    expect(&rt, refusal, Some((StoreFault::Worn, 2)));
+    expect(&rt, refusal_when_worn(alloc, u64::MAX - 1), None);
 }

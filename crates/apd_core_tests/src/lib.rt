@@ -9,6 +9,8 @@ mod crowd;
 #[cfg(test)]
 mod entry_tests;
 #[cfg(test)]
+mod expect;
+#[cfg(test)]
 mod fault_tests;
 #[cfg(test)]
 mod halves;

@@ -1,6 +1,7 @@
 //! When stations were heard, and which of them a tick ends.
 use crate::common::{AUTHENTICATION, Told, ask, take_batch};
 use crate::crowd::{Key, crowd, key_of, probe};
+use crate::expect::expect;
 use crate::steps::{Step, otherwise};
 use apd_core::{Core, Input};
 use apd_record::Change;
@@ -63,7 +64,7 @@ fn silent(alloc: Global, stations: u16) -> Option<((Told, Told, Told), Key)> {
 #[test]
 fn a_tick_names_the_only_silent_station(rt: HostRuntime) {
     let told = (("nothing", 0), ("entry", 1), ("nothing", 0));
-    assert_eq!(rt; silent(rt.alloc(), 2007), Some((told, key_of(8, 2006))));
+    expect(&rt, silent(rt.alloc(), 2007), Some((told, key_of(8, 2006))));
 }
 
 // The station is heard at 0, at 10 and at 5: it is silent for 300 seconds at 300,005.
@@ -79,5 +80,5 @@ fn moments_may_go_back(rt: HostRuntime) {
         (1, Step::Tick(300_004), ("nothing", 0)),
         (1, Step::Tick(300_005), ("entry", 5)),
     ];
-    assert_eq!(rt; otherwise(rt.alloc(), &rows), None);
+    expect(&rt, otherwise(rt.alloc(), &rows), None);
 }

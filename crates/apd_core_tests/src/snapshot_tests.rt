@@ -1,4 +1,5 @@
 //! Snapshots: the greatest, and one of changes in another order.
+use crate::expect::expect;
 use crate::halves::{
     HALF, HALF_B, RADIO, add_group, device, flusher_of, front_of, full, load_and_turn, pad,
     recover_store,
@@ -112,11 +113,9 @@ fn greatest_switch(alloc: Global) -> Option<(usize, (bool, usize))> {
 
 #[test]
 fn the_greatest_table(rt: HostRuntime) {
-    assert_eq!(rt; MAX_SNAPSHOT, 550_648);
-    assert_eq!(rt;
-        greatest_switch(rt.alloc()),
-        Some((MAX_SNAPSHOT, (true, 16_055)))
-    );
+    expect(&rt, MAX_SNAPSHOT, 550_648);
+    let switch = greatest_switch(rt.alloc());
+    expect(&rt, switch, Some((MAX_SNAPSHOT, (true, 16_055))));
 }
 
 const ANY_ORDER: &[u8] = &[
@@ -157,5 +156,5 @@ const CANONICAL: &[u8] = &[
 #[test]
 fn a_snapshot_in_another_order(rt: HostRuntime) {
     let begins = begins(rt.alloc(), ANY_ORDER, CANONICAL);
-    assert_eq!(rt; begins, Some((true, 1)));
+    expect(&rt, begins, Some((true, 1)));
 }

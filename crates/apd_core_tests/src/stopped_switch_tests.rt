@@ -1,4 +1,5 @@
 //! A switch that is stopped.
+use crate::expect::expect;
 use crate::halves::{both_open, one_open, show, switching};
 use apd_disk::{MemDisk, Torn};
 use std::alloc::Global;
@@ -15,7 +16,7 @@ fn a_switch_of_four_calls(rt: HostRuntime) {
     for calls in 1..=4 {
         for torn in [Torn::Old, Torn::New, Torn::Byte(1), Torn::Byte(0x7f)] {
             let found = show(alloc, stop(alloc, one_open(alloc), calls, torn));
-            assert_eq!(rt; found, "before", "{torn:?} in call {calls}");
+            expect(&rt, (calls, torn, found), (calls, torn, "before"));
         }
     }
 }
@@ -33,7 +34,7 @@ fn the_group_behind_a_switch(rt: HostRuntime) {
         (8, Torn::Byte(0x7f), "after"),
     ] {
         let found = show(alloc, stop(alloc, one_open(alloc), calls, torn));
-        assert_eq!(rt; found, is, "{torn:?} in call {calls}");
+        expect(&rt, (calls, torn, found), (calls, torn, is));
     }
 }
 
@@ -55,7 +56,7 @@ fn a_switch_of_six_calls(rt: HostRuntime) {
         (9, Torn::Byte(0x7f)),
     ] {
         let found = show(alloc, stop(alloc, both_open(alloc), calls, torn));
-        assert_eq!(rt; found, "before", "{torn:?} in call {calls}");
+        expect(&rt, (calls, torn, found), (calls, torn, "before"));
     }
 }
 
@@ -73,7 +74,7 @@ fn a_switch_over_what_another_left(rt: HostRuntime) {
     for calls in 1..=6 {
         for torn in [Torn::Old, Torn::Byte(1), Torn::Byte(0xff)] {
             let found = show_over(alloc, calls, torn);
-            assert_eq!(rt; found, "before", "{torn:?} in call {calls}");
+            expect(&rt, (calls, torn, found), (calls, torn, "before"));
         }
     }
     for (calls, torn, is) in [
@@ -82,6 +83,6 @@ fn a_switch_over_what_another_left(rt: HostRuntime) {
         (8, Torn::Byte(0), "after"),
     ] {
         let found = show_over(alloc, calls, torn);
-        assert_eq!(rt; found, is, "{torn:?} in call {calls}");
+        expect(&rt, (calls, torn, found), (calls, torn, is));
     }
 }

@@ -1,4 +1,5 @@
 //! The bytes of a switch, and what is shown where one of them is another.
+use crate::expect::expect;
 use crate::halves::{HALF_A, HALF_B, both_open, show, switching};
 use apd_disk::{Call, MemDisk};
 use std::alloc::Global;
@@ -37,10 +38,8 @@ fn the_calls_of_a_switch_over_an_open_half(rt: HostRuntime) {
         (0, 0),
     ];
     let made = calls_of_switch(rt.alloc());
-    assert_eq!(rt;
-        made.as_ref().map(|made| made.as_slice()),
-        Some(all.as_slice())
-    );
+    let made = made.as_ref().map(|made| made.as_slice());
+    expect(&rt, made, Some(all.as_slice()));
 }
 
 // The device with another byte.
@@ -79,6 +78,6 @@ fn other_bytes_in_both_halves(rt: HostRuntime) {
         (HALF_B + 13, 7, "after"),
     ] {
         let found = show(rt.alloc(), change_byte(rt.alloc(), place, byte));
-        assert_eq!(rt; found, is, "{byte} at {place}");
+        expect(&rt, (place, byte, found), (place, byte, is));
     }
 }
