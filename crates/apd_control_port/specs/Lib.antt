@@ -1,2 +1,3 @@
 pub mod Commands
+pub mod Replied
 pub mod Tags

@@ -2,9 +2,9 @@
 ghost use Rattle.std.specs.Prelude.{◌≡◌, ◌≢◌, [], Some, Err, IfOk, IfSome, OnOk, OnErr, IsSome, IsNone};
 ghost use Rattle.std.specs.Option.{ForSome, option_map};
 
+use crate::port::{Port, PortFault};
 use crate::replies::GivenReplies;
 use crate::senders::Senders;
-use apd_desk::{Port, PortFault};
 use apd_radio::{Datagrams, RadioFault, SocketFault};
 use std::alloc::Global;
 use std::net::{IpAddr, Ipv4Addr, Net, SocketAddr};

@@ -1,9 +1,11 @@
-//! The port of control commands: commands as datagrams, and who sent those that have no reply yet.
+//! The port of control commands: what a port does, and one whose commands are datagrams.
 #![tactic(auto)]
 
 mod control_port;
+mod port;
 mod replies;
 mod senders;
 
 pub use control_port::ControlPort;
+pub use port::{Port, PortFault};
 pub use senders::Senders;

@@ -1,7 +1,7 @@
 //! What a port replied, which only clauses read.
 ghost use Rattle.std.specs.Prelude.{◌≡◌, ℕ, List, [], ◌∷◌, ◌++◌, get_or};
 ghost use Rattle.std.specs.Borrow.{ftrue};
-ghost use Rattle.apd_desk.specs.Replied.{Reply};
+ghost use Rattle.apd_control_port.specs.Replied.{Reply};
 
 use std::marker::{Model, PhantomData};
 

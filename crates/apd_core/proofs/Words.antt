@@ -33,7 +33,7 @@ pub use Rattle.apd_frame.specs.Contents.{sender_of}
 pub use Rattle.apd_journal.specs.Half.{changes_of}
 pub use Rattle.apd_mlme.proofs.TrueOutsLemmas.{all_both, verdict_there}
 pub use Rattle.apd_mlme.proofs.VerdictLemmas.{meaning_in, run_sound, sound_in, stay_end}
-pub use Rattle.apd_mlme.specs.Happening.{Configure, Expire, Happening, Heard, Kick, ListEdit, happening}
+pub use Rattle.apd_event.specs.Happening.{Configure, Expire, Happening, Heard, Kick, ListEdit, happening}
 pub use Rattle.apd_mlme.specs.Outs.{is_same, outs_to}
 pub use Rattle.apd_mlme.specs.Run.{AreFit, outs_run, run}
 pub use Rattle.apd_mlme.specs.Verdict.{is_nothing}

@@ -10,7 +10,7 @@ use Rattle.apd_ctrl.specs.Texts.{text}
 use Rattle.apd_ctrl.specs.declared.command.Query.{Query}
 use Rattle.apd_journal.specs.Half.{changes_of}
 use Rattle.apd_journal.specs.declared.batch.Batch.{Batch}
-use Rattle.apd_mlme.specs.Happening.{Happening}
+use Rattle.apd_event.specs.Happening.{Happening}
 use Rattle.apd_mlme.specs.declared.decision.Recipient.{Recipient}
 use Rattle.apd_mlme.specs.declared.decision.Out.{Out}
 use Rattle.apd_mlme.specs.Verdict.{is_nothing}

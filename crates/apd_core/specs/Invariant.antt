@@ -5,7 +5,7 @@ use Rattle.apd_base.specs.declared.limits.TheConstants.{MAX_KEPT}
 use Rattle.apd_base.specs.State.{State}
 use Rattle.apd_conf.specs.Confs.{AreConfs}
 use Rattle.apd_conf.specs.declared.conf.Conf.{Conf}
-use Rattle.apd_mlme.specs.Happening.{Happening}
+use Rattle.apd_event.specs.Happening.{Happening}
 use Rattle.apd_mlme.specs.declared.decision.Recipient.{Recipient}
 use Rattle.apd_mlme.specs.Outs.{outs_to}
 use Rattle.apd_mlme.specs.rules.{verdict, IsFit}

@@ -12,8 +12,8 @@ use Rattle.apd_conf.specs.ListFile.{IsList}
 use Rattle.apd_frame.specs.Contents.{Contents}
 use Rattle.apd_frame.specs.Outcome.{outcome}
 use Rattle.apd_frame.specs.declared.ignored.Ignored.{Ignored}
-use Rattle.apd_mlme.specs.declared.event.Event.{Event}
-use Rattle.apd_mlme.specs.Happening.{Happening, Heard, Kick, ListEdit, Expire, Configure, happening, bssid_of}
+use Rattle.apd_event.specs.declared.event.Event.{Event}
+use Rattle.apd_event.specs.Happening.{Happening, Heard, Kick, ListEdit, Expire, Configure, happening, bssid_of}
 use Rattle.apd_core.specs.Heard.{LastHeard, due_row}
 use Rattle.apd_core.specs.declared.input.Input.{Input}
 use Rattle.apd_core.specs.declared.input.Input.TheVariants as input

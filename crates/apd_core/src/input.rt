@@ -1,15 +1,15 @@
 //! Requests to the daemon.
 ghost use Rattle.std.specs.Prelude.{◌≡◌, IfOk, IfSome, IfNone};
 ghost use Rattle.std.specs.Option.{option_map};
-ghost use Rattle.apd_mlme.specs.Happening.{happening};
+ghost use Rattle.apd_event.specs.Happening.{happening};
 ghost use Rattle.apd_mlme.specs.rules.{IsFit};
 ghost use Rattle.apd_core.specs.Requests.{event_happening, expiry, order_happening, happening_said, HasLists, unfitness};
 
 use apd_base::limits::MAX_BSS;
 use apd_base::{Addr, Bssid};
 use apd_conf::{AddressList, Confs};
+use apd_event::Event;
 use apd_frame::{Ignored, decode};
-use apd_mlme::Event;
 use apd_table::Table;
 use std::fmt;
 

@@ -9,7 +9,7 @@ ghost use Rattle.apd_base.specs.Addr.{station_cmp};
 ghost use Rattle.apd_base.specs.State.{State};
 ghost use Rattle.apd_base.specs.declared.address.Addr.{Addr};
 ghost use Rattle.apd_base.specs.declared.address.Bssid.{Bssid};
-ghost use Rattle.apd_mlme.specs.Happening.{happening};
+ghost use Rattle.apd_event.specs.Happening.{happening};
 ghost use Rattle.apd_record.specs.Meaning.{meaning_of};
 ghost use Rattle.apd_core.specs.Heard.{due_row, heard_by, heard_by_changes, heard_from, is_due, is_silent_too_long, AreHeardAt, AreMomentsOf, LastHeard};
 ghost use Rattle.apd_core.specs.for_proofs.ChangedRows.{is_of, is_put_of, puts_row, touches_row};
@@ -17,7 +17,7 @@ ghost use Rattle.apd_core.specs.for_proofs.LaidDown.{heard_at, moment_left, AreL
 
 use apd_base::{Addr, Bssid, Moment};
 use apd_conf::{Conf, Confs};
-use apd_mlme::Event;
+use apd_event::Event;
 use apd_record::Change;
 use apd_table::Table;
 use std::alloc::{AllocError, Global};

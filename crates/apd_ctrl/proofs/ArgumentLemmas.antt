@@ -14,8 +14,8 @@ use Rattle.apd_base.specs.declared.station.Which.{Which}
 use Rattle.apd_base.specs.Addr.{address_of}
 use Rattle.apd_base.proofs.AddrText.{address_length}
 use Rattle.apd_frame.specs.declared.codes.Reason.{Reason}
-use Rattle.apd_mlme.specs.declared.event.Edit.{Edit}
-use Rattle.apd_mlme.specs.declared.event.Edit.TheVariants.{Add, Remove, Clear}
+use Rattle.apd_event.specs.declared.event.Edit.{Edit}
+use Rattle.apd_event.specs.declared.event.Edit.TheVariants.{Add, Remove, Clear}
 use Rattle.apd_ctrl.specs.declared.command.Command.{Command}
 use Rattle.apd_ctrl.specs.declared.command.Command.TheVariants as c
 use Rattle.apd_ctrl.specs.Grammar.{after_blank, list_word, IsReasonNumber, IsReason, IsDismissal, IsEdit, Says}

@@ -9,8 +9,8 @@ use Rattle.apd_base.specs.declared.address.Addr.{Addr}
 use Rattle.apd_base.specs.declared.station.Which.{Which}
 use Rattle.apd_base.specs.declared.station.Which.TheVariants.{Accept, Deny}
 use Rattle.apd_frame.specs.declared.codes.Reason.{Reason}
-use Rattle.apd_mlme.specs.declared.event.Edit.{Edit}
-use Rattle.apd_mlme.specs.declared.event.Edit.TheVariants.{Add, Remove, Clear}
+use Rattle.apd_event.specs.declared.event.Edit.{Edit}
+use Rattle.apd_event.specs.declared.event.Edit.TheVariants.{Add, Remove, Clear}
 use Rattle.apd_ctrl.specs.declared.command.Command.{Command}
 use Rattle.apd_ctrl.specs.declared.command.Command.TheVariants as c
 use Rattle.apd_ctrl.specs.declared.parser.Parsed.{Parsed}

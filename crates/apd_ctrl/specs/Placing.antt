@@ -1,7 +1,7 @@
 -- What becomes of a command at a BSSID, a query or an event, and of bytes at the interface that they mean.
 use Rattle.std.specs.Prelude.{◌≡◌, ℕ, Bool, true, false, List, Option, Some, None, Result, Ok, Err}
 use Rattle.apd_base.specs.declared.address.Bssid.{Bssid}
-use Rattle.apd_mlme.specs.Happening.{Happening, Kick, ListEdit, happening}
+use Rattle.apd_event.specs.Happening.{Happening, Kick, ListEdit, happening}
 use Rattle.apd_ctrl.specs.declared.command.Command.{Command}
 use Rattle.apd_ctrl.specs.declared.command.Command.TheVariants as command
 use Rattle.apd_ctrl.specs.declared.command.Query.{Query}

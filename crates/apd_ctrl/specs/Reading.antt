@@ -10,7 +10,7 @@ use Rattle.apd_base.specs.Addr.{address_of}
 use Rattle.apd_base.specs.Text.{decimal_number, is_blank}
 use Rattle.apd_base.specs.declared.address.TheConstants.{TEXT_LENGTH}
 use Rattle.apd_frame.specs.declared.codes.Reason.{Reason}
-use Rattle.apd_mlme.specs.declared.event.Edit.TheVariants.{Add, Remove, Clear}
+use Rattle.apd_event.specs.declared.event.Edit.TheVariants.{Add, Remove, Clear}
 use Rattle.apd_ctrl.specs.declared.command.Command.{Command}
 use Rattle.apd_ctrl.specs.declared.command.Command.TheVariants as c
 use Rattle.apd_ctrl.specs.declared.parser.Refusal.{Refusal}

@@ -1,11 +1,11 @@
 //! Commands, and what becomes of each at a BSSID.
 ghost use Rattle.std.specs.Prelude.{◌≡◌};
-ghost use Rattle.apd_mlme.specs.Happening.{Kick};
+ghost use Rattle.apd_event.specs.Happening.{Kick};
 ghost use Rattle.apd_ctrl.specs.Placing.{Does, command_placing, placing};
 
 use apd_base::{Addr, Bssid, Which};
+use apd_event::{Edit, Event};
 use apd_frame::Reason;
-use apd_mlme::{Edit, Event};
 
 /// A command, as its words say it.
 ///

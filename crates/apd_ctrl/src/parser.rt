@@ -11,8 +11,8 @@ use crate::word::{Word, word_of};
 use apd_base::limits::MAX_COMMAND;
 use apd_base::text::{decimal_u16, first_blank};
 use apd_base::{Addr, TEXT_LENGTH, Which};
+use apd_event::Edit;
 use apd_frame::Reason;
-use apd_mlme::Edit;
 
 /// The reply to a command whose word is not known.
 pub const UNKNOWN_COMMAND: &[u8] = b"UNKNOWN COMMAND\n";

@@ -1,7 +1,7 @@
 -- A request raises the number of the last entry by the entries in its answer, and a ticket in it holds the request.
 use Rattle.std.proofs.Common.{◌≡◌, ℕ, ◌+◌, Bool, true, false, cond, [], ◌∷◌, ◌++◌, length, Option, None, Some, Result, Ok, Err, refl, subst, sym, ap, ◌∙◌, arith, length-append}
 use Rattle.apd_base.specs.declared.moment.Moment.{Moment}
-use Rattle.apd_mlme.specs.Happening.{Happening}
+use Rattle.apd_event.specs.Happening.{Happening}
 use Rattle.apd_mlme.specs.rules.{verdict}
 use Rattle.apd_mlme.specs.Verdict.{is_nothing}
 use Rattle.apd_core.specs.Core.{CoreState, answer_at, after_request, answer_to, answer_to_fit, front_of, is_busy, is_stopped, last_of, state_after, ticket}

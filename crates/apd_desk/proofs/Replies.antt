@@ -10,7 +10,7 @@ use Rattle.apd_mlme.specs.declared.decision.Out.{Out}
 use Rattle.apd_mlme.specs.declared.decision.Out.TheVariants.{Frame, Install, Remove, Text}
 use Rattle.apd_mlme.specs.declared.decision.Recipient.{Recipient}
 use Rattle.apd_mlme.specs.declared.decision.Recipient.TheVariants.{Control}
-use Rattle.apd_desk.specs.Replied.{Reply, and_replies}
+use Rattle.apd_control_port.specs.Replied.{Reply, and_replies}
 use Rattle.apd_desk.specs.Replying.{AreMade, AreReadyInSomeCore, AreReplied, AreSettled, AreSomeOf, HasReplied, IsAnswerOfSomeCore, IsAtOnce, IsEither}
 
 -- ---- such replies, time after time

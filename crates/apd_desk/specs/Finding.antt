@@ -8,7 +8,7 @@ use Rattle.apd_core.specs.declared.query_answer.Answer.{Answer}
 use Rattle.apd_ctrl.specs.Placing.{Asks, Does, IsPlaced, Placing}
 use Rattle.apd_ctrl.specs.declared.parser.Refusal.{Refusal}
 use Rattle.apd_ctrl.specs.declared.parser.Refusal.TheVariants.{Unknown, Fail}
-use Rattle.apd_mlme.specs.Happening.{Happening}
+use Rattle.apd_event.specs.Happening.{Happening}
 
 -- there was a core by whose configurations a name, or none, finds the interface of this BSSID, or finds none
 abbrev pub IsFoundBySomeCore : Option (List ℕ) → Option (Bssid × Bool) → Type 0

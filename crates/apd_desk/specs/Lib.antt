@@ -6,7 +6,6 @@ pub mod Giving
 pub mod Going
 pub mod Holding
 pub mod RadioNotes
-pub mod Replied
 pub mod Replying
 pub mod Serving
 pub mod Tending

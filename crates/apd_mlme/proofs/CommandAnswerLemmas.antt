@@ -4,7 +4,7 @@ use Rattle.std.specs.Prelude.{map as list_map, filter, ◌↔◌}
 use Rattle.apd_mlme.proofs.Words.{Add, Addr, Associated, Authenticated, BROADCAST, Bssid, Clear, Conf, Configure, Contains, Contains-append_left, Contains-append_right, Contains-push, Done, Edit, Expire, Happening, Heard, IsAnsweredTo, IsEdited, IsFit, IsFull, IsKicked, IsListed, IsMeant, IsOnAfter, Kick, ListEdit, Out, Policy, Radio, Reason, Recipient, Refused, Sound, State, Station, UNSPECIFIED, Which, addr_cmp, addr_exact, addr_total, addresses_at, aid_at, aid_of, allowed, and_parts, apart, bssid_cmp, bssid_exact, bssid_of, bssid_total, change_of, clear_elsewhere, clear_here, conf_at, configure_verdict, contains, deauthentication, differ, either, eq_by_cmp, farewell, heard_verdict, insert_elsewhere, insert_here, is_allowed_under, is_some, kick_by_deauthentication_of, kick_by_disassociation_of, kick_of_all, kick_verdict, leb-true, list_count, list_edit_verdict, none_is, not_yes, nothing, one_or_apart, only_reply, other_way, policy_at, remaining_row, removal, remove_elsewhere, remove_here, reply_out, same_addr, second_true, station_at, text, tied, unanswered_edit, unanswered_edit_under, unanswered_kick, verdict, verdict_under, which_cmp, which_exact, which_total, with_answer}
 use Rattle.std.specs.List.{flat_map}
 use Rattle.apd_mlme.specs.declared.decision.Out.TheVariants as out
-use Rattle.apd_mlme.specs.declared.event.Edit.TheVariants.{Remove}
+use Rattle.apd_event.specs.declared.event.Edit.TheVariants.{Remove}
 use Rattle.apd_mlme.specs.rules.Inactivity.{inactivity_verdict}
 use Rattle.apd_mlme.proofs.CommandLemmas.{by_kick, by_edit, IsUnneeded, IsTooMany, new}
 use Rattle.apd_mlme.proofs.RowLemmas as leave

@@ -2,7 +2,7 @@
 use Rattle.std.proofs.Common.{◌≡◌, ◌≤◌, arith, length, ℕ, Bool, true, false, cond, List, [], ◌∷◌, ◌++◌, Option, Some, None, inr, refl, ap, subst, ◌∙◌, IsSome, nat_le, append-nil}
 use Rattle.std.specs.List.{flat_map}
 use Rattle.apd_mlme.proofs.Words.{Add, Addr, Answer, BROADCAST, Bssid, Change, Clear, Done, Edit, FinMap, IsChange, NoneDeniedAfter, Policy, Reason, Refused, Sound, State, Station, StaySound, UNSPECIFIED, Verdict, Which, addr_cmp, addresses_at, aid_at, change_of, contains, denials_after, denials_under, drops, drops_rest, drops_sound, drops_stay, eq_by_cmp, farewell, is_some, kick_by_deauthentication, kick_by_disassociation, kick_of_all, leb-false, length-append, list_count, list_edit_verdict, list_length, meaning, meaning_of, nothing, outs_of_drop, policy_at, record_of, removal, reply_out, same_addr, sound_add, sound_clear, sound_take, station_cmp, text, unanswered_edit, unanswered_edit_under, unanswered_kick, which_number, with_answer, with_lists_after}
-use Rattle.apd_mlme.specs.declared.event.Edit.TheVariants.{Remove}
+use Rattle.apd_event.specs.declared.event.Edit.TheVariants.{Remove}
 use Rattle.apd_mlme.proofs.RowLemmas.{left_by-append, Follows}
 use Rattle.apd_mlme.proofs.DropLemmas.{removal_lets_go, kept_stations, kept_driver, all_leave, is_elsewhere}
 use Rattle.apd_mlme.proofs.EnforcementLemmas.{Makes, rest, enforced_sound}

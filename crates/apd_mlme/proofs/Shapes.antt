@@ -5,7 +5,7 @@ use Rattle.std.specs.FinMap as map
 use Rattle.apd_base.specs.declared.station.Policy.{Policy as BssPolicy}
 use Rattle.apd_frame.specs.Contents.{disassociation, deauthentication}
 use Rattle.apd_record.specs.declared.change.Change.TheVariants.{Policy}
-use Rattle.apd_mlme.specs.declared.event.Edit.TheVariants.{Remove as TakeOut}
+use Rattle.apd_event.specs.declared.event.Edit.TheVariants.{Remove as TakeOut}
 use Rattle.apd_mlme.specs.rules.Association as rule
 use Rattle.apd_mlme.specs.laws.NothingElse as always
 use Rattle.apd_mlme.specs.rules.Leaving as leaving

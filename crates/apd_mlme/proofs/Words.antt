@@ -32,7 +32,7 @@ pub use Rattle.apd_frame.specs.declared.codes.TheConstants.Reason.{INACTIVITY, I
 pub use Rattle.apd_frame.specs.declared.element.TheConstants.{SSID}
 pub use Rattle.apd_frame.specs.declared.received.Authentication.{Authentication}
 pub use Rattle.apd_frame.specs.declared.replies.Reply.{Reply}
-pub use Rattle.apd_mlme.specs.Happening.{Configure, Expire, Happening, Heard, Kick, ListEdit, bssid_of}
+pub use Rattle.apd_event.specs.Happening.{Configure, Expire, Happening, Heard, Kick, ListEdit, bssid_of}
 pub use Rattle.apd_mlme.specs.Outs.{is_same, outs_to, reply_out}
 pub use Rattle.apd_mlme.specs.Run.{AreFit, run}
 pub use Rattle.apd_mlme.specs.Verdict.{Verdict, nothing, only_reply}
@@ -45,8 +45,8 @@ pub use Rattle.apd_mlme.specs.declared.decision.Out.{Out}
 pub use Rattle.apd_mlme.specs.declared.decision.Out.TheVariants.{Frame, Install, Remove, Text}
 pub use Rattle.apd_mlme.specs.declared.decision.Recipient.{Recipient}
 pub use Rattle.apd_mlme.specs.declared.decision.Recipient.TheVariants.{Control, Radio}
-pub use Rattle.apd_mlme.specs.declared.event.Edit.{Edit}
-pub use Rattle.apd_mlme.specs.declared.event.Edit.TheVariants.{Add, Clear}
+pub use Rattle.apd_event.specs.declared.event.Edit.{Edit}
+pub use Rattle.apd_event.specs.declared.event.Edit.TheVariants.{Add, Clear}
 pub use Rattle.apd_mlme.specs.laws.Association.{IsAnsweredTruly, IsDeserved, IsForNetwork, IsJoined, IsMember, IsOfEnd, remaining_row}
 pub use Rattle.apd_mlme.specs.laws.AssociationEnd.{HasLeft, IsDeparture, IsMeant, IsToldOfEnd}
 pub use Rattle.apd_mlme.specs.laws.Authentication.{IsAllowed, IsFirst, IsOpenSystem, IsRoomKept, IsToldTruly}

@@ -1,4 +1,3 @@
-pub mod Happening
 pub mod Outs
 pub mod Run
 pub mod Verdict

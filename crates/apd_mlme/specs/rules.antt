@@ -26,7 +26,7 @@ use Rattle.apd_mlme.specs.rules.Authentication.{auth_verdict}
 use Rattle.apd_mlme.specs.rules.Commands.{kick_verdict, list_edit_verdict}
 use Rattle.apd_mlme.specs.rules.Configuration.{configure_verdict}
 use Rattle.apd_mlme.specs.rules.Departure.{disassociation_verdict, deauthentication_verdict, data_verdict}
-use Rattle.apd_mlme.specs.Happening.{Happening, Heard, Kick, ListEdit, Expire, Configure, bssid_of}
+use Rattle.apd_event.specs.Happening.{Happening, Heard, Kick, ListEdit, Expire, Configure, bssid_of}
 use Rattle.apd_mlme.specs.rules.Inactivity.{inactivity_verdict}
 use Rattle.apd_mlme.specs.rules.ProbeRequest.{probe_verdict}
 use Rattle.apd_mlme.specs.Verdict.{Verdict, nothing}

@@ -1,8 +1,9 @@
 //! The answer to an association or a reassociation request (IEEE Std 802.11-2016, 11.3.5.3 and 11.3.5.5).
-ghost use Rattle.std.specs.Prelude.{◌≡◌, ◌++◌, None, Some, false, is_some, IsSome, IfOk, OnOk};
+ghost use Rattle.std.specs.Prelude.{◌≡◌, ◌∷◌, ◌++◌, None, Some, false, is_some, IsSome, IfOk, OnOk};
 ghost use Rattle.std.specs.Option.{option_copied};
 ghost use Rattle.apd_base.specs.State.{station_at, aid_at};
 ghost use Rattle.apd_frame.specs.Contents.{association, reassociation};
+ghost use Rattle.apd_record.specs.declared.change.Change.TheVariants.{Put};
 ghost use Rattle.apd_mlme.specs.rules.Association.{acceptance_of, association_response, association_status, association_verdict, body_of, bssids_elsewhere, installation, is_elsewhere, is_named, outs_elsewhere, put_backs, row_of, without_current_ap};
 ghost use Rattle.apd_mlme.specs.rules.Identifiers.{cursor_changes, identifier_for, next_free, number_of};
 ghost use Rattle.apd_mlme.specs.Verdict.{is_nothing};
@@ -236,6 +237,52 @@ fn push_cursor(
     Ok(())
 }
 
+/// What a request that is accepted changes, where these other BSSIDs have the station associated.
+fn accepted_changes(
+    alloc: Global,
+    table: &Table,
+    bssid: Bssid,
+    request: &Association<'_>,
+    aid: Aid,
+    others: &[Bssid],
+) -> Result<Changes, AllocError>
+    ensures { IfOk result
+        (λ changes. changes
+        ≡ put_backs request.now.sender others.now
+        ++ Put bssid request.now.sender (row_of (association request.now) aid)
+        ∷ cursor_changes table.now bssid request.now.sender aid) }
+{
+    let sender = request.sender;
+    let mut changes = Changes::new(alloc);
+    push_put_backs(sender, others, &mut changes)?;
+    changes.push(Change::Put {
+        bssid,
+        addr: sender,
+        station: row(request, aid),
+    })?;
+    push_cursor(table, bssid, sender, aid, &mut changes)?;
+    Ok(changes)
+}
+
+/// What leaves for a request that is accepted, before the response.
+fn accepted_outs(
+    alloc: Global,
+    table: &Table,
+    confs: &Confs,
+    bssid: Bssid,
+    sender: Addr,
+    aid: Aid,
+    others: &[Bssid],
+) -> Result<Sequence<(Recipient, Out)>, AllocError>
+    ensures { IfOk result
+        (λ outs. outs ≡ outs_elsewhere confs.now sender others.now ++ installation table.now bssid sender aid) }
+{
+    let mut outs = Sequence::new(alloc);
+    push_outs_elsewhere(alloc, confs, sender, others, &mut outs)?;
+    push_installation(table, bssid, sender, aid, &mut outs)?;
+    Ok(outs)
+}
+
 /// What a request that is accepted brings about.
 fn accept(
     alloc: Global,
@@ -261,17 +308,8 @@ fn accept(
     let sender = request.sender;
     let aid = identifier(table, bssid, sender);
     let others = bssids_elsewhere(alloc, table, bssid, sender)?;
-    let mut changes = Changes::new(alloc);
-    push_put_backs(sender, others.as_slice(), &mut changes)?;
-    changes.push(Change::Put {
-        bssid,
-        addr: sender,
-        station: row(request, aid),
-    })?;
-    push_cursor(table, bssid, sender, aid, &mut changes)?;
-    let mut outs = Sequence::new(alloc);
-    push_outs_elsewhere(alloc, confs, sender, others.as_slice(), &mut outs)?;
-    push_installation(table, bssid, sender, aid, &mut outs)?;
+    let changes = accepted_changes(alloc, table, bssid, request, aid, others.as_slice())?;
+    let mut outs = accepted_outs(alloc, table, confs, bssid, sender, aid, others.as_slice())?;
     let reply = response(conf, bssid, kind, sender, Status::Success, Some(aid));
     outs.push(reply_out(alloc, &reply)?)?;
     Ok(Draft { changes, outs })

@@ -27,7 +27,7 @@ ghost use Rattle.apd_mlme.specs.laws.Command.{IsAnsweredTo};
 ghost use Rattle.apd_mlme.specs.laws.Departure.{IsDeauthenticated, IsDisassociated, IsSilenced};
 ghost use Rattle.apd_mlme.specs.laws.Driver.{FollowsDrivers};
 ghost use Rattle.apd_mlme.specs.laws.AssociationEnd.{HasLeft, IsToldOfEnd};
-ghost use Rattle.apd_mlme.specs.Happening.{Configure, Expire, Happening, Heard, Kick};
+ghost use Rattle.apd_event.specs.Happening.{Configure, Expire, Happening, Heard, Kick};
 ghost use Rattle.apd_mlme.specs.rules.Identifiers.{identifier_for};
 ghost use Rattle.apd_mlme.specs.laws.ManagementFrame.{deauthentication_frame, disassociation_frame};
 ghost use Rattle.apd_mlme.specs.laws.NothingElse.{AreApart, AreFramesDue, AreLetGo, AreNeeded, AreTakenIn, IsAlwaysMade};

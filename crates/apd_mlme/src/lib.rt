@@ -10,7 +10,7 @@ ghost use Rattle.apd_record.specs.Record.{records_of};
 ghost use Rattle.apd_table.specs.Sound.{StaySound};
 ghost use Rattle.apd_mlme.specs.laws.Driver.{FollowsDrivers};
 ghost use Rattle.apd_mlme.specs.declared.decision.TheConstants.{MAX_RECORD_BYTES};
-ghost use Rattle.apd_mlme.specs.Happening.{happening};
+ghost use Rattle.apd_event.specs.Happening.{happening};
 ghost use Rattle.apd_mlme.specs.rules.{verdict, heard_verdict, IsFit};
 ghost use Rattle.apd_mlme.specs.Verdict.{is_nothing};
 
@@ -21,7 +21,6 @@ mod configuration;
 mod decision;
 mod departure;
 mod draft;
-mod event;
 mod inactivity;
 mod kick;
 pub mod laws;
@@ -32,13 +31,13 @@ mod probe_request;
 
 use apd_base::Bssid;
 use apd_conf::{Conf, Confs};
+pub use apd_event::{Edit, Event};
 use apd_frame::Frame;
 use apd_table::Table;
 use association::Kind;
 pub use command_answer::Answer;
 pub use decision::{Decision, MAX_RECORD_BYTES, Out, Recipient};
 use draft::Draft;
-pub use event::{Edit, Event};
 use std::alloc::{AllocError, Global};
 
 /// What a fit event brings about: its changes, in an order in which each of them leaves a sound

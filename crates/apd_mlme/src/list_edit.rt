@@ -7,10 +7,10 @@ ghost use Rattle.apd_mlme.specs.rules.Commands.{change_of, list_edit_verdict, un
 
 use crate::command_answer::{Answer, with_answer};
 use crate::draft::Draft;
-use crate::event::Edit;
 use crate::leaving::drop_denied;
 use apd_base::limits::MAX_LISTED;
 use apd_base::{Addr, Bssid, Which};
+use apd_event::Edit;
 use apd_record::Change;
 use apd_table::Table;
 use std::alloc::{AllocError, Global};

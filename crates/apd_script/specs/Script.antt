@@ -18,7 +18,7 @@ use Rattle.apd_ctrl.specs.declared.command.Command.{Command as Order}
 use Rattle.apd_ctrl.specs.declared.parser.Refusal.{Refusal}
 use Rattle.apd_disk.specs.Disk.{LeavesOnly, DiskModel}
 use Rattle.apd_frame.specs.Outcome.{outcome}
-use Rattle.apd_mlme.specs.Happening.{Happening}
+use Rattle.apd_event.specs.Happening.{Happening}
 use Rattle.apd_mlme.specs.Run.{run}
 use Rattle.apd_mlme.specs.declared.decision.Recipient.{Recipient}
 use Rattle.apd_radio.specs.Model.{RadioModel}

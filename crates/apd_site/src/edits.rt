@@ -3,7 +3,7 @@ use crate::notices::tell_edit;
 use apd_base::Which;
 use apd_conf::{Confs, InterfaceName};
 use apd_ctrl::{Command, Parsed, parse_command};
-use apd_mlme::Edit;
+use apd_event::Edit;
 use log::Log;
 use std::alloc::{AllocError, Global};
 use std::fmt::{self, Display, Formatter};

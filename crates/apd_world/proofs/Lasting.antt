@@ -10,10 +10,10 @@ use Rattle.apd_frame.specs.declared.replies.ReplyBody.TheVariants.{Auth, Assoc, 
 use Rattle.apd_mlme.specs.declared.decision.Out.TheVariants.{Install, Frame, Text}
 use Rattle.apd_world.proofs.Words.{Addr, Answer, AreFit, Bssid, Conf, Happening, LastHeard, Out, Radio, Recipient, Shows, Sound, State, aid_at, outs_run, outs_to, run, verdict}
 use Rattle.apd_core.proofs.Queues.{all_weaker}
-use Rattle.apd_mlme.specs.Happening.{ListEdit}
+use Rattle.apd_event.specs.Happening.{ListEdit}
 use Rattle.apd_mlme.specs.Outs.{is_same}
 use Rattle.apd_mlme.specs.declared.command_answer.Answer.TheVariants.{Done, Refused}
-use Rattle.apd_mlme.specs.declared.event.Edit.{Edit}
+use Rattle.apd_event.specs.declared.event.Edit.{Edit}
 use Rattle.apd_mlme.specs.laws.Command.{IsAnsweredTo, IsOnAfter}
 use Rattle.apd_mlme.specs.rules.{IsFit}
 use Rattle.apd_mlme.specs.rules.Commands.{text}

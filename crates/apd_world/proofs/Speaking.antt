@@ -7,7 +7,7 @@ use Rattle.apd_frame.specs.Outcome.{outcome}
 use Rattle.apd_frame.specs.declared.ignored.Ignored.{Ignored}
 use Rattle.apd_frame.proofs.Senders.{sender_not_broadcast}
 use Rattle.apd_mlme.specs.laws.Broadcast.{AreFromStations, IsFromStation, NoBroadcastRow}
-use Rattle.apd_mlme.specs.Happening.{Heard, Kick, ListEdit, Expire, happening}
+use Rattle.apd_event.specs.Happening.{Heard, Kick, ListEdit, Expire, happening}
 use Rattle.apd_mlme.specs.laws.Outs.{OutsAreTrueForAll}
 use Rattle.apd_mlme.proofs.AdmissionLemmas.{run_broadcast}
 use Rattle.apd_mlme.proofs.TrueOutsLemmas.{verdict_is_true_for_all}

@@ -10,10 +10,10 @@ use Rattle.apd_frame.specs.declared.replies.Reply.{Reply}
 use Rattle.apd_frame.specs.declared.replies.ReplyBody.{ReplyBody}
 use Rattle.apd_frame.specs.declared.replies.ReplyBody.TheVariants.{Auth, Assoc, Reassoc}
 use Rattle.apd_frame.specs.Wire.{wire}
-use Rattle.apd_mlme.specs.Happening.{ListEdit}
+use Rattle.apd_event.specs.Happening.{ListEdit}
 use Rattle.apd_mlme.specs.declared.command_answer.Answer.TheVariants.{Done}
 use Rattle.apd_mlme.specs.declared.decision.Out.TheVariants.{Install, Frame}
-use Rattle.apd_mlme.specs.declared.event.Edit.{Edit}
+use Rattle.apd_event.specs.declared.event.Edit.{Edit}
 use Rattle.apd_mlme.specs.laws.Outs.{OutIsTrue}
 use Rattle.apd_mlme.specs.rules.Commands.{text}
 use Rattle.apd_world.specs.Words.{Addr, Bssid, Out, Recipient, Shows, State, aid_at, verdict}

@@ -27,7 +27,7 @@ pub use Rattle.apd_flusher.specs.declared.committer.Committer.{Committer}
 pub use Rattle.apd_flusher.specs.declared.flusher.Flusher.{Flusher}
 pub use Rattle.apd_flusher.specs.declared.phase.Phase.{Phase}
 pub use Rattle.apd_journal.specs.declared.batch.Batch.{Batch}
-pub use Rattle.apd_mlme.specs.Happening.{Configure, Happening}
+pub use Rattle.apd_event.specs.Happening.{Configure, Happening}
 pub use Rattle.apd_mlme.specs.Outs.{is_same, outs_to}
 pub use Rattle.apd_mlme.specs.Run.{AreFit, outs_run, run}
 pub use Rattle.apd_mlme.specs.declared.decision.Out.{Out}

@@ -1,6 +1,6 @@
 //! The steps of a durable core.
 ghost use Rattle.std.specs.Prelude.{◌≡◌, ◌≢◌, ◌⊎◌, ℕ, List, IfOk, IsSome, OnErr, take};
-ghost use Rattle.apd_mlme.specs.Happening.{Happening};
+ghost use Rattle.apd_event.specs.Happening.{Happening};
 ghost use Rattle.apd_mlme.specs.Run.{run};
 ghost use Rattle.apd_store.specs.Image.{Shows};
 ghost use Rattle.apd_flusher.specs.Outside.{phase_of, waiting_receipt};

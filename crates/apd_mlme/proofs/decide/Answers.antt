@@ -1,4 +1,4 @@
-use Rattle.apd_mlme.specs.Happening.{happening}
+use Rattle.apd_event.specs.Happening.{happening}
 use Rattle.apd_mlme.proofs.VerdictLemmas.{decided_meaning, decided_sound, decided_driver}
 use Rattle.apd_mlme.proofs.RecordLengthLemmas.{decided_length}
 use Rattle.apd_mlme.proofs.decide.Goals as goal

@@ -5,7 +5,7 @@ use Rattle.apd_base.specs.declared.address.Addr.{Addr}
 use Rattle.apd_base.specs.declared.address.Bssid.{Bssid}
 use Rattle.apd_frame.specs.Contents.{authentication}
 use Rattle.apd_frame.specs.declared.received.Authentication.{Authentication}
-use Rattle.apd_mlme.specs.Happening.{Happening, Heard}
+use Rattle.apd_event.specs.Happening.{Happening, Heard}
 
 -- the station asks the BSSID to authenticate it
 abbrev pub Asks : Bssid → Addr → Happening → Type 0

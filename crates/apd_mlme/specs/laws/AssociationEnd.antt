@@ -8,7 +8,7 @@ use Rattle.apd_frame.specs.declared.codes.Reason.{Reason}
 use Rattle.apd_mlme.specs.declared.decision.Recipient.{Recipient}
 use Rattle.apd_mlme.specs.declared.decision.Out.{Out}
 use Rattle.apd_base.specs.declared.address.TheConstants.{BROADCAST}
-use Rattle.apd_mlme.specs.Happening.{Happening, Heard, Kick, ListEdit, Expire, Configure}
+use Rattle.apd_event.specs.Happening.{Happening, Heard, Kick, ListEdit, Expire, Configure}
 use Rattle.apd_mlme.specs.rules.Leaving as told
 use Rattle.apd_mlme.specs.Outs.{reply_out}
 

@@ -5,7 +5,7 @@ use Rattle.apd_base.specs.declared.address.Bssid.{Bssid}
 use Rattle.apd_base.specs.State.{State, station_at}
 use Rattle.apd_frame.specs.Contents.{sender_of}
 use Rattle.apd_base.specs.declared.address.TheConstants.{BROADCAST}
-use Rattle.apd_mlme.specs.Happening.{Happening, Heard, Kick, ListEdit, Expire, Configure}
+use Rattle.apd_event.specs.Happening.{Happening, Heard, Kick, ListEdit, Expire, Configure}
 
 -- a frame is not from the broadcast address
 abbrev pub IsFromStation : Happening → Type 0

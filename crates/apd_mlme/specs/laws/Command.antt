@@ -16,13 +16,13 @@ use Rattle.apd_mlme.specs.declared.decision.Recipient.{Recipient}
 use Rattle.apd_mlme.specs.declared.decision.Recipient.TheVariants.{Radio, Control}
 use Rattle.apd_mlme.specs.declared.decision.Out.{Out}
 use Rattle.apd_mlme.specs.declared.decision.Out.TheVariants as out
-use Rattle.apd_mlme.specs.declared.event.Edit.{Edit}
-use Rattle.apd_mlme.specs.declared.event.Edit.TheVariants.{Add, Remove, Clear}
+use Rattle.apd_event.specs.declared.event.Edit.{Edit}
+use Rattle.apd_event.specs.declared.event.Edit.TheVariants.{Add, Remove, Clear}
 use Rattle.apd_base.specs.declared.address.TheConstants.{BROADCAST}
 use Rattle.apd_mlme.specs.laws.Association.{remaining_row}
 use Rattle.apd_mlme.specs.rules.Commands.{text, farewell}
 use Rattle.apd_mlme.specs.laws.AssociationEnd.{IsMeant}
-use Rattle.apd_mlme.specs.Happening.{Happening, Heard, Kick, ListEdit, Expire, Configure}
+use Rattle.apd_event.specs.Happening.{Happening, Heard, Kick, ListEdit, Expire, Configure}
 use Rattle.apd_mlme.specs.rules.Leaving.{deauthentication}
 use Rattle.apd_mlme.specs.Outs.{outs_to, reply_out}
 use Rattle.apd_mlme.specs.Verdict.{Verdict}

@@ -26,8 +26,8 @@ use Rattle.apd_record.specs.Meaning.{meaning}
 use Rattle.apd_mlme.specs.declared.decision.Recipient.TheVariants.{Radio}
 use Rattle.apd_mlme.specs.declared.decision.Out.{Out}
 use Rattle.apd_mlme.specs.declared.decision.Out.TheVariants.{Install, Remove, Frame, Text}
-use Rattle.apd_mlme.specs.declared.event.Edit.TheVariants.{Clear}
-use Rattle.apd_mlme.specs.Happening.{Happening, Heard, Kick, ListEdit, Expire, Configure}
+use Rattle.apd_event.specs.declared.event.Edit.TheVariants.{Clear}
+use Rattle.apd_event.specs.Happening.{Happening, Heard, Kick, ListEdit, Expire, Configure}
 use Rattle.apd_mlme.specs.laws.Association.{IsDeserved}
 use Rattle.apd_mlme.specs.laws.AssociationEnd.{HasLeft}
 use Rattle.apd_mlme.specs.Outs.{outs_to}

@@ -6,7 +6,7 @@ use Rattle.apd_base.specs.declared.address.Bssid.{Bssid}
 use Rattle.apd_base.specs.State.{State, aid_at}
 use Rattle.apd_conf.specs.declared.conf.Conf.{Conf}
 use Rattle.apd_table.specs.LeastFree.{IsNextFree, IsTaken, last_given}
-use Rattle.apd_mlme.specs.Happening.{Happening}
+use Rattle.apd_event.specs.Happening.{Happening}
 use Rattle.apd_mlme.specs.Run.{run}
 
 -- between two states the BSSID gave the identifier: a station that had none has it

@@ -25,8 +25,8 @@ use Rattle.apd_mlme.specs.declared.decision.Recipient.{Recipient}
 use Rattle.apd_mlme.specs.declared.decision.Recipient.TheVariants.{Control}
 use Rattle.apd_mlme.specs.declared.decision.Out.{Out}
 use Rattle.apd_mlme.specs.declared.decision.Out.TheVariants.{Text}
-use Rattle.apd_mlme.specs.declared.event.Edit.{Edit}
-use Rattle.apd_mlme.specs.declared.event.Edit.TheVariants.{Add, Remove, Clear}
+use Rattle.apd_event.specs.declared.event.Edit.{Edit}
+use Rattle.apd_event.specs.declared.event.Edit.TheVariants.{Add, Remove, Clear}
 use Rattle.apd_base.specs.declared.address.TheConstants.{BROADCAST}
 use Rattle.apd_mlme.specs.rules.Configuration.{enforcement}
 use Rattle.apd_mlme.specs.rules.Leaving.{disassociation, deauthentication, removal, outs_of_end, outs_of_drop, put_back, row_drop}

@@ -1,7 +1,7 @@
 use Rattle.std.proofs.Common.{ℕ, List, Err}
 use Rattle.apd_ctrl.specs.declared.parser.Refusal.{Refusal}
 use Rattle.apd_ctrl.specs.declared.parser.Refusal.TheVariants.{Unknown, Fail}
-use Rattle.apd_mlme.specs.Happening.{happening}
+use Rattle.apd_event.specs.Happening.{happening}
 use Rattle.apd_desk.specs.Finding.{IsAnswerTo, IsPlacedBySomeCore}
 use Rattle.apd_desk.proofs.controlling.carry_out.Goals as goal
 

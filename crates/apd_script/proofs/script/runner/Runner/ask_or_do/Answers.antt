@@ -2,7 +2,7 @@ use Rattle.std.proofs.Common.{ap, refl, Ok, Some, zero}
 use Rattle.apd_core.specs.Requests.{order_happening}
 use Rattle.apd_core.specs.declared.input.Input.TheVariants as input
 use Rattle.apd_ctrl.specs.Placing.{placing, Asks, Does}
-use Rattle.apd_mlme.specs.Happening.{happening}
+use Rattle.apd_event.specs.Happening.{happening}
 use Rattle.apd_world.specs.declared.step.Step.TheVariants.{Accept}
 use Rattle.apd_script.proofs.Doing.{placed_ok, requested_ok, still_undone}
 use Rattle.apd_script.proofs.script.runner.Runner.ask_or_do.Goals as goal

@@ -52,7 +52,7 @@ pub enum Event<'a> {
 }
 
 impl Event<'_> {
-    ghost use Rattle.apd_mlme.specs.Happening.{happening, bssid_of};
+    ghost use Rattle.apd_event.specs.Happening.{happening, bssid_of};
 
     /// The BSSID at which it happens.
     pub fn bssid(&self) -> Bssid

@@ -1,6 +1,6 @@
 //! Where control commands come from.
 ghost use Rattle.std.specs.Prelude.{◌≡◌, List, [], ◌∷◌, None, Option, OnErr, OnOk};
-ghost use Rattle.apd_desk.specs.Replied.{Reply, and_replies};
+ghost use Rattle.apd_control_port.specs.Replied.{Reply, and_replies};
 
 use std::alloc::AllocError;
 use std::os::fd::RawFd;
@@ -18,7 +18,7 @@ pub enum PortFault {
 }
 
 impl From<AllocError> for PortFault {
-    ghost use Rattle.apd_desk.specs.declared.port.PortFault.TheVariants.{NoMemory};
+    ghost use Rattle.apd_control_port.specs.declared.port.PortFault.TheVariants.{NoMemory};
 
     ghost from_gives = { λ _ fault. fault ≡ NoMemory };
 

@@ -6,9 +6,9 @@ use Rattle.apd_base.specs.declared.address.Bssid.{Bssid}
 use Rattle.apd_base.specs.declared.station.Which.{Which}
 use Rattle.apd_frame.specs.Contents.{Contents, contents}
 use Rattle.apd_frame.specs.declared.codes.Reason.{Reason}
-use Rattle.apd_mlme.specs.declared.event.Edit.{Edit}
-use Rattle.apd_mlme.specs.declared.event.Event.{Event}
-use Rattle.apd_mlme.specs.declared.event.Event.TheVariants as event
+use Rattle.apd_event.specs.declared.event.Edit.{Edit}
+use Rattle.apd_event.specs.declared.event.Event.{Event}
+use Rattle.apd_event.specs.declared.event.Event.TheVariants as event
 
 pub data Happening : Type 0 where
   -- its radio received a frame
