@@ -6,7 +6,7 @@ use crate::calls::{
 use crate::expect::expect;
 use crate::said::{Answer, Said, all_said};
 use crate::seen::{Seen, look};
-use crate::steps::{ASSOCIATES, ASSOCIATION, AUTHENTICATES, WLAN0};
+use crate::steps::{ASSOCIATION, WLAN0, steps_of};
 use crate::worlds::{conf, failing_radio, start_with, start_world, stop_after};
 use apd_base::AclMode;
 use apd_conf::Confs;
@@ -14,7 +14,7 @@ use apd_disk::MemDisk;
 use apd_mlme::Recipient;
 use apd_radio::{Failing, Sim};
 use apd_slot::SlotFault;
-use apd_world::{Step, World, WorldFault};
+use apd_world::{World, WorldFault};
 use std::alloc::Global;
 
 /// A world with a radio whose device fails.
@@ -69,33 +69,29 @@ fn answers_of_none() -> [Answer; 2] {
 }
 
 /// What a flush answers behind these steps.
-fn flush_after(alloc: Global, world: &mut Failed, steps: &[Step<'static>]) -> Option<Vec<Answer>> {
-    makes(world, steps)?;
+fn flush_after(alloc: Global, world: &mut Failed, words: &str) -> Option<Vec<Answer>> {
+    makes(world, &steps_of(alloc, words)?)?;
     answers_if_ok(alloc, flush_answers(world))
 }
 
 /// What a flush answers once a station has authenticated and associated, over a radio that passes so many calls.
 fn flush(alloc: Global, calls: u64) -> Option<Vec<Answer>> {
     let mut world = start_with(alloc, &[1], failing_radio(alloc, calls)?)?;
-    let answers = flush_after(alloc, &mut world, &[AUTHENTICATES, ASSOCIATES]);
+    let answers = flush_after(alloc, &mut world, "authenticates associates");
     drop(world);
     answers
 }
 
 /// What a hand-out answers behind these steps.
-fn hand_out_after(
-    alloc: Global,
-    world: &mut Failed,
-    steps: &[Step<'static>],
-) -> Option<Vec<Answer>> {
-    makes(world, steps)?;
+fn hand_out_after(alloc: Global, world: &mut Failed, words: &str) -> Option<Vec<Answer>> {
+    makes(world, &steps_of(alloc, words)?)?;
     answers_if_ok(alloc, hand_out_answers(world))
 }
 
 /// What a hand-out answers once that is committed.
 fn hand_out(alloc: Global, calls: u64) -> Option<Vec<Answer>> {
     let mut world = start_with(alloc, &[1], failing_radio(alloc, calls)?)?;
-    let answers = hand_out_after(alloc, &mut world, &ASSOCIATION);
+    let answers = hand_out_after(alloc, &mut world, ASSOCIATION);
     drop(world);
     answers
 }
@@ -131,18 +127,18 @@ fn a_hand_out_tells_what_a_radio_was_not_given(rt: HostRuntime) {
 }
 
 /// Whether a flush behind a step tells this.
-fn tells(alloc: Global, world: &mut Failed, step: Step<'static>, answers: &[Answer]) -> bool {
-    flush_after(alloc, world, &[step]).as_deref() == Some(answers)
+fn tells(alloc: Global, world: &mut Failed, word: &str, answers: &[Answer]) -> bool {
+    flush_after(alloc, world, word).as_deref() == Some(answers)
 }
 
 /// Whether each tells what it should, where the station authenticates, associates and does so once more, at a radio
 /// that passes one call.
 fn all_tell(alloc: Global, world: &mut Failed) -> [bool; 4] {
     [
-        tells(alloc, world, AUTHENTICATES, &answers_of_one(Said::Sent)),
-        tells(alloc, world, ASSOCIATES, &answers_of_two([DOWN, LOST])),
-        tells(alloc, world, ASSOCIATES, &answers_of_one(LOST)),
-        tells(alloc, world, Step::Take, &answers_of_none()),
+        tells(alloc, world, "authenticates", &answers_of_one(Said::Sent)),
+        tells(alloc, world, "associates", &answers_of_two([DOWN, LOST])),
+        tells(alloc, world, "associates", &answers_of_one(LOST)),
+        tells(alloc, world, "take", &answers_of_none()),
     ]
 }
 
@@ -160,7 +156,8 @@ fn a_slot_that_is_down_is_told_by_each_flush(rt: HostRuntime) {
 
 /// The device of a world in which the station is associated.
 fn device(alloc: Global) -> Option<MemDisk> {
-    stop_after(start_world(alloc, &[1])?, &ASSOCIATION)
+    let steps = steps_of(alloc, ASSOCIATION)?;
+    stop_after(start_world(alloc, &[1])?, &steps)
 }
 
 /// The interface, at which no station is allowed.

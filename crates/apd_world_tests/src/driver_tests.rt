@@ -2,15 +2,12 @@
 use crate::calls::{Memory, slots_of};
 use crate::expect::expect;
 use crate::seen::{Seen, look_at_two};
-use crate::steps::{
-    ASSOCIATES, AT_WLAN0, AUTHENTICATES, COMMITS, ROAMS, STATION, TO_WLAN0, WLAN0, WLAN1,
-};
+use crate::steps::{COMMITS, ROAMS, STATION, WLAN0, WLAN1, steps_of};
 use crate::worlds::{recover_world, start_with, stop_after};
 use apd_base::Bssid;
 use apd_disk::MemDisk;
 use apd_radio::{Recording, Sim};
 use apd_slot::Slot;
-use apd_world::Step;
 use std::alloc::Global;
 use std::process::Abort;
 
@@ -37,18 +34,19 @@ fn two_slots<'a>(
 /// The device after these steps of a world of two radios. What they are told is written.
 fn device_after(
     alloc: Global,
-    steps: &[Step<'static>],
+    words: &str,
     first: &mut Vec<u8>,
     second: &mut Vec<u8>,
 ) -> Option<MemDisk> {
+    let steps = steps_of(alloc, words)?;
     let slots = two_slots(alloc, first, second)?;
-    stop_after(start_with(alloc, &[1, 2], slots)?, steps)
+    stop_after(start_with(alloc, &[1, 2], slots)?, &steps)
 }
 
 /// Expects that both radios are told this of these steps, until their world ends.
-fn expect_lines(rt: &impl Abort, alloc: Global, steps: &[Step<'static>], lines: [&[u8]; 2]) {
+fn expect_lines(rt: &impl Abort, alloc: Global, words: &str, lines: [&[u8]; 2]) {
     let (mut first, mut second) = (Vec::new(alloc), Vec::new(alloc));
-    let has_ended = device_after(alloc, steps, &mut first, &mut second).is_some();
+    let has_ended = device_after(alloc, words, &mut first, &mut second).is_some();
     expect(rt, has_ended, true);
     let [one, two] = lines;
     expect(rt, first.as_slice(), one);
@@ -61,31 +59,18 @@ fn nothing() -> &'static [u8] {
 
 #[test]
 fn nothing_is_sent_of_what_was_not_handed_out(rt: HostRuntime) {
-    expect_lines(&rt, rt.alloc(), &COMMITS, [nothing(), nothing()]);
+    expect_lines(&rt, rt.alloc(), COMMITS, [nothing(), nothing()]);
 }
 
 /// A station authenticates, and then associates.
-const JOINS: [Step<'static>; 19] = [
-    AUTHENTICATES,
-    Step::Take,
-    Step::Call,
-    Step::Call,
-    Step::Call,
-    Step::Call,
-    Step::Publish,
-    TO_WLAN0,
-    AT_WLAN0,
-    ASSOCIATES,
-    Step::Take,
-    Step::Call,
-    Step::Call,
-    Step::Call,
-    Step::Call,
-    Step::Publish,
-    TO_WLAN0,
-    AT_WLAN0,
-    AT_WLAN0,
-];
+const JOINS: &str = "
+    authenticates
+    take call call call call publish
+    hand-to-wlan0 apply-at-wlan0
+    associates
+    take call call call call publish
+    hand-to-wlan0 apply-at-wlan0 apply-at-wlan0
+";
 
 fn first_lines() -> &'static [u8] {
     b"down
@@ -98,7 +83,7 @@ down
 
 #[test]
 fn a_run_is_recorded(rt: HostRuntime) {
-    expect_lines(&rt, rt.alloc(), &JOINS, [first_lines(), nothing()]);
+    expect_lines(&rt, rt.alloc(), JOINS, [first_lines(), nothing()]);
 }
 
 fn lines_of_leaving() -> &'static [u8] {
@@ -126,7 +111,7 @@ fn a_station_goes_to_another_radio(rt: HostRuntime) {
     expect_lines(
         &rt,
         rt.alloc(),
-        &ROAMS,
+        ROAMS,
         [lines_of_leaving(), lines_of_joining()],
     );
 }
@@ -134,7 +119,7 @@ fn a_station_goes_to_another_radio(rt: HostRuntime) {
 /// The device after the station went to the other radio.
 fn roam(alloc: Global) -> Option<MemDisk> {
     let (mut first, mut second) = (Vec::new(alloc), Vec::new(alloc));
-    device_after(alloc, &ROAMS, &mut first, &mut second)
+    device_after(alloc, ROAMS, &mut first, &mut second)
 }
 
 /// How many rows a world has, and what is seen of its slots.

@@ -2,27 +2,18 @@
 use crate::calls::{slots_of, tell};
 use crate::expect::expect;
 use crate::seen::{Seen, look};
-use crate::steps::{ASSOCIATES, AT_WLAN0, AUTHENTICATES, TO_WLAN0};
+use crate::steps::steps_of;
 use crate::worlds::{failing_radio, start_with};
 use apd_slot::SlotFault;
-use apd_world::{Step, Told};
+use apd_world::Told;
 use std::alloc::Global;
 
 /// A station associates, which is committed and handed out.
-const ASSOCIATED: [Step<'static>; 12] = [
-    AUTHENTICATES,
-    ASSOCIATES,
-    Step::Take,
-    Step::Call,
-    Step::Call,
-    Step::Call,
-    Step::Call,
-    Step::Publish,
-    TO_WLAN0,
-    AT_WLAN0,
-    AT_WLAN0,
-    AT_WLAN0,
-];
+const ASSOCIATED: &str = "
+    authenticates associates
+    take call call call call publish
+    hand-to-wlan0 apply-at-wlan0 apply-at-wlan0 apply-at-wlan0
+";
 
 /// Why an out was not given to the radio.
 fn fault_of(told: Option<&Told>) -> Option<SlotFault> {
@@ -43,8 +34,9 @@ fn answers(tolds: &[Told]) -> [Option<SlotFault>; 3] {
 
 /// What a radio's slot answers, and is seen of it then.
 fn run(alloc: Global, calls: u64) -> Option<([Option<SlotFault>; 3], Option<Seen>)> {
+    let steps = steps_of(alloc, ASSOCIATED)?;
     let mut world = start_with(alloc, &[1], failing_radio(alloc, calls)?)?;
-    let tolds = tell(&mut world, &ASSOCIATED);
+    let tolds = tell(&mut world, &steps);
     let slots = slots_of(world);
     Some((answers(tolds.as_deref()?), look(&slots)))
 }

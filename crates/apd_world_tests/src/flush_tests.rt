@@ -1,7 +1,7 @@
 //! Flushes over a device that fails: they end by the store's fault, and never by want of memory.
 use crate::calls::{blank_disk, flush_answers, hand_out_answers, makes, refusal};
 use crate::expect::expect;
-use crate::steps::AUTHENTICATES;
+use crate::steps::steps_of;
 use crate::worlds::{failing_radio, new_world, sims};
 use apd_disk::{Disk, FuseDisk, OnceDisk};
 use apd_radio::Radio;
@@ -19,8 +19,8 @@ fn flush_refusal<D: Disk, R: Radio>(world: &mut World<D, R>) -> Option<WorldFaul
 type Refusals = ([Option<WorldFault>; 3], Option<WorldFault>);
 
 /// The same of a started world, once a station has authenticated.
-fn refusals<D: Disk, R: Radio>(world: &mut World<D, R>) -> Option<Refusals> {
-    makes(world, &[AUTHENTICATES])?;
+fn refusals<D: Disk, R: Radio>(alloc: Global, world: &mut World<D, R>) -> Option<Refusals> {
+    makes(world, &steps_of(alloc, "authenticates")?)?;
     let flushes = [
         flush_refusal(world),
         flush_refusal(world),
@@ -38,7 +38,7 @@ fn refusals_over<D: Disk + Drop, R: Radio>(
     let mut world = new_world(alloc, disk, &[1], slots)?;
     let found = match refusal(&mut world) {
         Some(_) => None,
-        None => refusals(&mut world),
+        None => refusals(alloc, &mut world),
     };
     drop(world);
     found

@@ -3,18 +3,13 @@ use crate::calls::{parts_of, receive, receive_at, replace_radio, restart_world, 
 use crate::expect::expect;
 use crate::said::{Said, in_short};
 use crate::seen::{Seen, look_at};
-use crate::steps::{
-    ASSOCIATES, AT_WLAN0, AT_WLAN1, AUTHENTICATES, OTHER, OTHER_ASSOCIATES, OTHER_AUTHENTICATES,
-    STATION, TO_WLAN0, TO_WLAN1, WLAN0, WLAN1,
-};
+use crate::steps::{OTHER, STATION, THIRD, WLAN0, WLAN1, WLAN2, steps_of};
 use crate::worlds::{confs, start_with};
-use apd_base::{Addr, Bssid, Moment};
-use apd_core::Input;
+use apd_base::Addr;
 use apd_disk::MemDisk;
-use apd_mlme::Recipient;
 use apd_radio::{Radio, Recording, Replaying, Sim};
 use apd_slot::Slot;
-use apd_world::{Step, Told, World};
+use apd_world::{Told, World};
 use std::alloc::Global;
 
 type Boxed = Box<dyn Radio + Send>;
@@ -22,50 +17,16 @@ type Boxed = Box<dyn Radio + Send>;
 /// One for each slot.
 type Three = (Boxed, Boxed, Boxed);
 
-const WLAN2: Bssid = Bssid(Addr([2, 0, 0, 0, 0, 3]));
-
-const THIRD: Addr = Addr([2, 0, 0, 0, 0, 0xcc]);
-
-const THIRD_AUTHENTICATION_FRAME: &[u8] = &[
-    0xb0, 0, 0, 0, 2, 0, 0, 0, 0, 3, 2, 0, 0, 0, 0, 0xcc, 2, 0, 0, 0, 0, 3, 0x10, 0, 0, 0, 1, 0, 0,
-    0,
-];
-
-const THIRD_ASSOCIATION_FRAME: &[u8] = &[
-    0, 0, 0, 0, 2, 0, 0, 0, 0, 3, 2, 0, 0, 0, 0, 0xcc, 2, 0, 0, 0, 0, 3, 0x20, 0, 0x31, 4, 0x0a, 0,
-    0, 3, 0x6e, 0x65, 0x74, 1, 4, 0x82, 0x84, 0x8b, 0x96,
-];
-
 /// A station associates at each, all that is committed, and each is given what is for it.
-const SERVES: [Step<'static>; 24] = [
-    AUTHENTICATES,
-    ASSOCIATES,
-    OTHER_AUTHENTICATES,
-    OTHER_ASSOCIATES,
-    Step::Accept(
-        Input::Received(WLAN2, THIRD_AUTHENTICATION_FRAME),
-        Moment(0),
-    ),
-    Step::Accept(Input::Received(WLAN2, THIRD_ASSOCIATION_FRAME), Moment(0)),
-    Step::Take,
-    Step::Call,
-    Step::Call,
-    Step::Call,
-    Step::Call,
-    Step::Publish,
-    TO_WLAN0,
-    AT_WLAN0,
-    AT_WLAN0,
-    AT_WLAN0,
-    TO_WLAN1,
-    AT_WLAN1,
-    AT_WLAN1,
-    AT_WLAN1,
-    Step::Hand(Recipient::Radio(WLAN2)),
-    Step::Apply(WLAN2),
-    Step::Apply(WLAN2),
-    Step::Apply(WLAN2),
-];
+const SERVES: &str = "
+    authenticates associates
+    other-authenticates-at-wlan1 other-associates-at-wlan1
+    third-authenticates-at-wlan2 third-associates-at-wlan2
+    take call call call call publish
+    hand-to-wlan0 apply-at-wlan0 apply-at-wlan0 apply-at-wlan0
+    hand-to-wlan1 apply-at-wlan1 apply-at-wlan1 apply-at-wlan1
+    hand-to-wlan2 apply-at-wlan2 apply-at-wlan2 apply-at-wlan2
+";
 
 /// What is told of the last twelve: to each radio its answers, and between them the station under its first identifier.
 const SERVED: [Said; 12] = [
@@ -149,21 +110,13 @@ fn last_said(alloc: Global, tolds: &[Told]) -> Option<Vec<Said>> {
     all_said(alloc, tolds.get(12..)?)
 }
 
-/// The same of a world that makes these steps.
-fn makes(
-    alloc: Global,
-    world: &mut World<MemDisk, Boxed>,
-    steps: &[Step<'static>],
-) -> Option<Vec<Said>> {
-    let tolds = tell(world, steps)?;
+/// The same of a world that serves.
+fn serves(alloc: Global, world: &mut World<MemDisk, Boxed>) -> Option<Vec<Said>> {
+    let steps = steps_of(alloc, SERVES)?;
+    let tolds = tell(world, &steps)?;
     let said = last_said(alloc, &tolds);
     drop(tolds);
     said
-}
-
-/// What is told of the last twelve.
-fn serves(alloc: Global, world: &mut World<MemDisk, Boxed>) -> Option<Vec<Said>> {
-    makes(alloc, world, &SERVES)
 }
 
 /// What is seen of the slots of a world that stops, and the device.

@@ -1,6 +1,6 @@
 //! Tests of the world by its public calls alone, over a device of memory: what no clause says of a run by an example.
-//! A test is a list of steps, what is left of the device, and what is found by who comes next. In `faults` each device
-//! call of whole sessions is stopped, and fails.
+//! A test is a list of steps (`steps` reads it from words), what is left of the device, and what is found by who comes
+//! next. In `faults` each device call of whole sessions is stopped, and fails.
 #![tactic(auto)]
 
 #[cfg(test)]

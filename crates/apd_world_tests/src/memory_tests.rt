@@ -3,7 +3,7 @@
 use crate::calls::{Memory, Refused, device, restart_world, slots_of, tell};
 use crate::expect::expect;
 use crate::seen::{Seen, look_at_two};
-use crate::steps::{ASSOCIATIONS, OTHER, STATION, WLAN0, WLAN1};
+use crate::steps::{ASSOCIATIONS, OTHER, STATION, WLAN0, WLAN1, steps_of};
 use crate::worlds::{confs, sims, start_world};
 use apd_conf::Confs;
 use apd_disk::{MemDisk, Torn};
@@ -15,8 +15,9 @@ use std::alloc::Global;
 
 /// The device on which a station is associated at each radio; none where a step was refused memory.
 fn settle(alloc: Global) -> Option<MemDisk> {
+    let steps = steps_of(alloc, ASSOCIATIONS)?;
     let mut world = start_world(alloc, &[1, 2])?;
-    let tolds = tell(&mut world, &ASSOCIATIONS);
+    let tolds = tell(&mut world, &steps);
     let has_both = tolds.is_some() && world.table().rows() == 2;
     has_both.then_some(device(world))
 }

@@ -2,7 +2,7 @@
 use crate::calls::{Memory, blank_disk, makes, queues, slots_of, start_answers, tell};
 use crate::expect::expect;
 use crate::said::{Answer, Said, all_said, in_short};
-use crate::steps::{AT_WLAN0, AUTHENTICATES, OTHER, STATION, TO_WLAN0, WLAN0};
+use crate::steps::{OTHER, STATION, WLAN0, steps_of};
 use crate::worlds::{configure_radio, new_world};
 use apd_base::Aid;
 use apd_mlme::{Out, Recipient};
@@ -36,20 +36,11 @@ fn world(alloc: Global) -> Option<Memory> {
 }
 
 /// A station authenticates, that is committed and handed out, and each out that waits is applied.
-const STEPS: [Step<'static>; 12] = [
-    AUTHENTICATES,
-    Step::Take,
-    Step::Call,
-    Step::Call,
-    Step::Call,
-    Step::Call,
-    Step::Publish,
-    TO_WLAN0,
-    AT_WLAN0,
-    AT_WLAN0,
-    AT_WLAN0,
-    AT_WLAN0,
-];
+const STEPS: &str = "
+    authenticates
+    take call call call call publish
+    hand-to-wlan0 apply-at-wlan0 apply-at-wlan0 apply-at-wlan0 apply-at-wlan0
+";
 
 /// What is told of the hand-out, and of each out that is applied behind it.
 fn answers_of(tolds: &[Told]) -> Option<[Said; 5]> {
@@ -72,8 +63,9 @@ fn configures(alloc: Global, world: &mut Memory) -> bool {
 
 /// What is told of the hand-out, and of what is applied.
 fn run_on(alloc: Global, world: &mut Memory) -> Option<[Said; 5]> {
+    let steps = steps_of(alloc, STEPS)?;
     if configures(alloc, world) {
-        answers_of(tell(world, &STEPS).as_deref()?)
+        answers_of(tell(world, &steps).as_deref()?)
     } else {
         None
     }
@@ -127,15 +119,17 @@ fn look(slots: &[Slot<Sim>]) -> Option<Seen> {
     Some((slot.waiting_count(), installed))
 }
 
-/// Makes so many of the steps. Whether that came about.
+/// Makes these steps. Whether that came about.
 fn goes_on(alloc: Global, world: &mut Memory, steps: &[Step<'static>]) -> bool {
     configures(alloc, world) && makes(world, steps).is_some()
 }
 
-/// What is seen of the slot that a world gives back behind these of the steps.
-fn give_back(alloc: Global, steps: &[Step<'static>]) -> Option<Seen> {
+/// What is seen of the slot that a world gives back behind so many of the steps.
+fn give_back(alloc: Global, count: usize) -> Option<Seen> {
+    let steps = steps_of(alloc, STEPS)?;
+    let made = steps.get(..count)?;
     let mut world = world(alloc)?;
-    let goes_on = goes_on(alloc, &mut world, steps);
+    let goes_on = goes_on(alloc, &mut world, made);
     let slots = slots_of(world);
     if goes_on { look(&slots) } else { None }
 }
@@ -149,7 +143,7 @@ fn no_out_waits_at_a_slot_that_is_given_back(rt: HostRuntime) {
         (10, [Some(9), Some(8)]),
         (12, [Some(9), Some(8)]),
     ] {
-        let found = STEPS.get(..count).map(|steps| give_back(rt.alloc(), steps));
-        expect(&rt, (count, found), (count, Some(Some((0, installed)))));
+        let found = give_back(rt.alloc(), count);
+        expect(&rt, (count, found), (count, Some((0, installed))));
     }
 }

@@ -1,7 +1,7 @@
 //! Restarts that a radio refuses: which slot is told, and what is left of it, of those before it and of those behind.
 use crate::calls::{Refused, applies, queues, restart_world, slots_of};
 use crate::expect::expect;
-use crate::steps::{ASSOCIATIONS, OTHER, STATION, WLAN0, WLAN1};
+use crate::steps::{ASSOCIATIONS, OTHER, STATION, WLAN0, WLAN1, steps_of};
 use crate::worlds::{confs, radio, recover_world, start_world, stop_after};
 use apd_base::{Addr, Aid};
 use apd_disk::MemDisk;
@@ -82,7 +82,8 @@ fn look(slots: &[Used]) -> Option<[Seen; 3]> {
 
 /// A device on which a station is associated at the first radio, another at the second, and none at the third.
 fn device(alloc: Global) -> Option<MemDisk> {
-    stop_after(start_world(alloc, &[1, 2, 3])?, &ASSOCIATIONS)
+    let steps = steps_of(alloc, ASSOCIATIONS)?;
+    stop_after(start_world(alloc, &[1, 2, 3])?, &steps)
 }
 
 /// What a restart comes to there.

@@ -1,7 +1,7 @@
 //! Radios whose driver fails, and others in their place.
 use crate::calls::{begins_mending, join_parts, mends, parts_of, replace_radio, tell};
 use crate::expect::expect;
-use crate::steps::{ROAMS, STATION, WLAN0, WLAN1};
+use crate::steps::{ROAMS, STATION, WLAN0, WLAN1, steps_of};
 use crate::worlds::{start_with, start_world};
 use apd_base::{Addr, Bssid, Station};
 use apd_disk::MemDisk;
@@ -34,8 +34,9 @@ fn slots(alloc: Global, radios: (Failable, Failable)) -> Option<Vec<Slot<Failabl
 
 /// A world whose station went from one radio to the other.
 fn roam(alloc: Global, radios: (Failable, Failable)) -> Option<World<MemDisk, Failable>> {
+    let steps = steps_of(alloc, ROAMS)?;
     let mut world = start_with(alloc, &[1, 2], slots(alloc, radios)?)?;
-    tell(&mut world, &ROAMS).and(Some(world))
+    tell(&mut world, &steps).and(Some(world))
 }
 
 /// The identifier of the station at a BSSID, by a table.

@@ -1,18 +1,18 @@
 //! A run that stops, and what the next one finds.
 use crate::calls::{Memory, tell};
 use crate::expect::expect;
-use crate::steps::{ASSOCIATES, AUTHENTICATES, COMMITS, DENIES, STATION, TO_WLAN0, WLAN0};
+use crate::steps::{COMMITS, STATION, WLAN0, steps_of};
 use crate::worlds::{recover_world, start_world, stop_after};
 use apd_base::{Station, Which};
-use apd_ctrl::Query;
 use apd_disk::{MemDisk, Torn};
-use apd_mlme::Recipient;
-use apd_world::{Step, Told};
+use apd_world::Told;
 use std::alloc::Global;
 
-/// The device of one radio after these steps.
-fn device_after(alloc: Global, steps: &[Step<'static>]) -> Option<MemDisk> {
-    stop_after(start_world(alloc, &[1])?, steps)
+/// The device of one radio after so many of these steps.
+fn device_after(alloc: Global, words: &str, count: usize) -> Option<MemDisk> {
+    let steps = steps_of(alloc, words)?;
+    let made = steps.get(..count)?;
+    stop_after(start_world(alloc, &[1])?, made)
 }
 
 /// Half A from its first byte on, after the start of one interface and an authentication.
@@ -32,9 +32,9 @@ fn in_use(alloc: Global, device: &MemDisk) -> Option<Vec<u8>> {
     Vec::from_slice(alloc, device.bytes().get(64..118)?).ok()
 }
 
-/// The same after an authentication.
+/// The same after an authentication: all seven steps.
 fn bytes_after_commit(alloc: Global) -> Option<Vec<u8>> {
-    let device = device_after(alloc, &COMMITS)?;
+    let device = device_after(alloc, COMMITS, 7)?;
     let bytes = in_use(alloc, &device);
     drop(device);
     bytes
@@ -85,7 +85,7 @@ fn is_there(world: &Memory) -> bool {
 
 /// The world begun anew after such a stop.
 fn begin_after(alloc: Global, made: usize, torn: Option<Torn>) -> Option<Memory> {
-    let device = device_after(alloc, COMMITS.get(..made)?)?;
+    let device = device_after(alloc, COMMITS, made)?;
     recover_world(alloc, image(device, torn), &[1])
 }
 
@@ -114,25 +114,13 @@ fn a_stop_in_a_commit(rt: HostRuntime) {
 }
 
 /// The station associates, which is committed; it is put on the deny list, which is committed and handed out.
-const DENIED: [Step<'static>; 17] = [
-    AUTHENTICATES,
-    ASSOCIATES,
-    Step::Take,
-    Step::Call,
-    Step::Call,
-    Step::Call,
-    Step::Call,
-    Step::Publish,
-    DENIES,
-    Step::Take,
-    Step::Call,
-    Step::Call,
-    Step::Call,
-    Step::Call,
-    Step::Publish,
-    TO_WLAN0,
-    Step::Hand(Recipient::Control),
-];
+const DENIED: &str = "
+    authenticates associates
+    take call call call call publish
+    deny
+    take call call call call publish
+    hand-to-wlan0 hand-to-control
+";
 
 /// Whether the station is associated, and whether the deny list has it.
 fn look(world: &Memory) -> Option<(bool, bool)> {
@@ -143,7 +131,7 @@ fn look(world: &Memory) -> Option<(bool, bool)> {
 
 /// What is seen after a stop behind so many of these steps.
 fn look_behind(alloc: Global, made: usize) -> Option<(bool, bool)> {
-    let device = device_after(alloc, DENIED.get(..made)?)?;
+    let device = device_after(alloc, DENIED, made)?;
     let world = recover_world(alloc, device, &[1])?;
     let seen = look(&world);
     drop(world);
@@ -156,25 +144,14 @@ fn a_denial_outlives_a_stop(rt: HostRuntime) {
     expect(&rt, look_behind(rt.alloc(), 17), Some((false, true)));
 }
 
-const ASKS: Step<'static> = Step::Ask(Query::Sta(WLAN0, STATION));
-
 /// The station is asked for before its authentication is published, and behind.
-const ASKED_TWICE: [Step<'static>; 9] = [
-    AUTHENTICATES,
-    Step::Take,
-    Step::Call,
-    Step::Call,
-    Step::Call,
-    Step::Call,
-    ASKS,
-    Step::Publish,
-    ASKS,
-];
+const ASKED_TWICE: &str = "authenticates take call call call call ask publish ask";
 
 /// What a started world tells of these steps.
-fn answers(alloc: Global, steps: &[Step<'static>]) -> Option<Vec<Told>> {
+fn answers(alloc: Global, words: &str) -> Option<Vec<Told>> {
+    let steps = steps_of(alloc, words)?;
     let mut world = start_world(alloc, &[1])?;
-    let tolds = tell(&mut world, steps);
+    let tolds = tell(&mut world, &steps);
     drop(world);
     tolds
 }
@@ -193,7 +170,7 @@ fn station_text() -> &'static [u8] {
 
 #[test]
 fn a_query_sees_the_older_table_until_a_batch_is_published(rt: HostRuntime) {
-    let tolds = answers(rt.alloc(), &ASKED_TWICE);
+    let tolds = answers(rt.alloc(), ASKED_TWICE);
     let tolds = tolds.as_deref().unwrap_or(&[]);
     expect(&rt, text(tolds.get(6)), b"FAIL\n");
     expect(&rt, text(tolds.get(8)), station_text());
