@@ -1,13 +1,9 @@
 #!/usr/bin/env python3
-"""Draws serving.svg beside it: the requests a second that docs/BENCHMARK.md has under "Serving", for 2,007 stations.
-
-It takes the first table of apd's there, and hostapd's.
-"""
+"""Draws serving.svg beside it from serving.csv: requests answered a second, for 2,007 stations."""
+import csv
 import pathlib
-import re
 
 HERE = pathlib.Path(__file__).resolve().parent
-STATIONS = "2007"
 WINDOWS = "1", "16", "256"
 # What a bar is of, its words, its colour.
 SERIES = (
@@ -21,14 +17,8 @@ GREY, DARK = "#57606a", "#1f2328"
 
 def figures():
     """The requests answered a second, by what a bar is of and how many requests were out at a time."""
-    page = (HERE / "../BENCHMARK.md").read_text()
-    part = page.partition("\n## Serving\n")[2].partition("\n## ")[0]
-    found = {}
-    for store, window, asks in re.findall(rf"(?m)^ +(memory|disk) +{STATIONS} +(\d+) +(\d+)", part):
-        found.setdefault((store, window), int(asks))
-    for window, asks in re.findall(rf"(?m)^ +{STATIONS} +(\d+) +(\d+) +[\d.]+ +[\d.]+$", part):
-        found.setdefault(("hostapd", window), int(asks))
-    return found
+    with open(HERE / "serving.csv", newline="", encoding="ascii") as file:
+        return {(it["what"], it["window"]): int(it["asks"]) for it in csv.DictReader(file)}
 
 
 def text(x, y, words, anchor="middle", colour=DARK, size=12):

@@ -9,7 +9,7 @@ const UPGRADE_HELP: &str =
 NEW gets the table of OLD, and 'copied' is printed. OLD is only read, so the earlier version
 can go on with it. Where OLD is refused, or NEW has another length than 2097216 bytes, nothing
 is written; but a NEW that was not there has been made by then, of zeros, and may be removed.
-docs/UPGRADE.md has each step, and the way back.";
+docs/RUN.md has each step, and the way back.";
 
 const OLD: &str = "The file of a store of version 1, which is only read";
 

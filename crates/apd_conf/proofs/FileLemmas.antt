@@ -18,7 +18,8 @@ use Rattle.apd_conf.specs.declared.conf_fault.Required.TheVariants as required
 use Rattle.apd_conf.specs.declared.list_fault.ListFault.{ListFault}
 use Rattle.apd_conf.specs.declared.list_fault.ListFault.TheVariants as list_faults
 use Rattle.apd_conf.specs.Auth.{algs_number}
-use Rattle.apd_conf.specs.for_proofs.Codes.{algs_from, algs_from-algs_number, quiet_number, quiet_from, quiet_from-quiet_number}
+use Rattle.apd_conf.specs.BroadcastSsid.{quiet_number}
+use Rattle.apd_conf.specs.for_proofs.Codes.{algs_from, algs_from-algs_number, quiet_from, quiet_from-quiet_number}
 use Rattle.apd_conf.specs.Faults.{IsFirstFault, IsFaultless}
 use Rattle.apd_conf.specs.ListFile as lists
 use Rattle.apd_base.specs.Addr.{address_of}

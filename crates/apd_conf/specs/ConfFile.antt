@@ -15,7 +15,7 @@ use Rattle.apd_conf.specs.declared.conf_fault.Required.TheVariants as required
 use Rattle.apd_conf.specs.declared.conf_fault.ConfFault.{ConfFault}
 use Rattle.apd_conf.specs.declared.conf_fault.ConfFault.TheVariants as faults
 use Rattle.apd_conf.specs.Auth.{algs_number}
-use Rattle.apd_conf.specs.for_proofs.Codes.{quiet_number}
+use Rattle.apd_conf.specs.BroadcastSsid.{quiet_number}
 use Rattle.apd_conf.specs.Lines.{is_skipped}
 use Rattle.apd_base.specs.Addr.{address_of}
 use Rattle.apd_conf.specs.Faults.{IsFirstFault, IsFaultless}

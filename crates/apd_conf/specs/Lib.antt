@@ -1,4 +1,5 @@
 pub mod Auth
+pub mod BroadcastSsid
 pub mod BuiltIn
 pub mod Conf
 pub mod ConfFile

@@ -3,7 +3,7 @@ ghost use Rattle.std.specs.Prelude.{◌≡◌, ◌≤◌, true, ℕ, List, Some,
 ghost use Rattle.std.specs.Option.{option_copied};
 ghost use Rattle.apd_base.specs.Mode.{mode_number};
 ghost use Rattle.apd_conf.specs.Auth.{algs_number};
-ghost use Rattle.apd_conf.specs.for_proofs.Codes.{quiet_number};
+ghost use Rattle.apd_conf.specs.BroadcastSsid.{quiet_number};
 ghost use Rattle.apd_conf.specs.Lines.{lines};
 ghost use Rattle.apd_conf.specs.Faults.{IsFaultless};
 ghost use Rattle.apd_conf.specs.Table.{rule_of};

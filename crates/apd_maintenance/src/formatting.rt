@@ -12,7 +12,7 @@ use thiserror::Error;
 /// Why no new store is told of.
 #[derive(Clone, Copy, Debug, PartialEq, Eq, Error)]
 pub enum FormatFault {
-    /// The device is refused, or it failed.
+    /// The device is refused, or it failed; or memory ran out, which is `Store(NoMemory)`, while it was looked into.
     #[error("{0}")]
     Store(StoreFault),
     /// It is a store of the empty table, and this can't be printed.

@@ -13,7 +13,7 @@ use thiserror::Error;
 /// Why no copy is told of.
 #[derive(Clone, Copy, Debug, PartialEq, Eq, Error)]
 pub enum UpgradeFault {
-    /// A device is refused, or one failed.
+    /// A device is refused, or one failed; or memory ran out, which is `Store(NoMemory)`.
     #[error("{0}")]
     Store(StoreFault),
     /// The new device is a store of the old one's table, and this can't be printed.

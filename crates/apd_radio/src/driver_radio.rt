@@ -29,8 +29,15 @@ const AT_ONCE: u32 = 64;
 ///
 /// No call waits for the driver, nor for an answer of it. Before anything else it is told the whole map, by the first
 /// `poll` or `transmit`, and so it is after `take_down`: stations that are installed in between are in the map, and have
-/// no word of their own. It is told the map anew where it asks for it, and where a word was not sent, as for want of
-/// memory. Where the driver says that it failed at a word, the next `install` or `remove` answers `Device`.
+/// no word of their own. It is told the map again where it asks for it, and where a word was not sent, as when memory
+/// ran out.
+///
+/// A driver's fault is told at a later call than that whose word it names: the next `install` or `remove` answers
+/// `Device` where a fault of any word came in since the last call that answered so (`failed`, and `heeds` of `poll`),
+/// and tells the driver nothing itself.
+///
+/// Where it is dropped it tells the driver nothing, though radios of the other kinds are taken down then: the stations
+/// stay associated while the daemon is started again, and the next daemon tells the driver its whole map first.
 ///
 /// A frame that was received stays until there is memory for it: a `poll` that answers `NoMemory` lost nothing. A
 /// `transmit` answers `NoMemory` where the map is to be told first and there is no memory for it, and `Device` where the

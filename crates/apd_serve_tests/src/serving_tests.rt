@@ -207,8 +207,9 @@ where
     serves_over(rt, alloc, disk(rt, alloc, calls), lines, entries);
 }
 
+// A ping and a frame are answered over loopback, both ends in one process.
 #[test]
-fn a_ping_and_a_frame_are_answered_over_loopback(rt: HostRuntime) {
+fn serve_loopback(rt: HostRuntime) {
     const LINES: &[Line] = &[
         Line::Sends(0, CONTROL, Datagram::Text("PING")),
         Line::Gets(0, CONTROL, Datagram::Text("PONG\n")),

@@ -266,6 +266,10 @@ fn same_changes(
         if same_answer(rt, alloc, table, plain, &change) {
             made = made.saturating_add(1);
         }
+        if number % 10 == 9 {
+            same_bss(rt, table, plain, places_of(&change).0);
+            snapshot(rt, alloc, table, plain);
+        }
         if number % 100 == 99 {
             same_snapshot(rt, alloc, table, plain);
         }

@@ -8,6 +8,7 @@ use Rattle.apd_base.specs.declared.address.Addr.{Addr}
 use Rattle.apd_base.specs.Addr.{coded_addr, coded_bssid}
 use Rattle.apd_base.specs.for_proofs.Codes.{coded_station_number, coded_mode}
 use Rattle.apd_conf.specs.Auth.{algs_number}
+use Rattle.apd_conf.specs.BroadcastSsid.{quiet_number}
 use Rattle.apd_conf.specs.declared.conf.Conf.{Conf}
 use Rattle.apd_conf.specs.declared.hw_mode.HwMode.{HwMode}
 use Rattle.apd_conf.specs.declared.hw_mode.HwMode.TheVariants.{A, B, G}
@@ -47,11 +48,6 @@ algs_from-algs_number OpenAndShared = refl
 
 abbrev pub coded_algs : Coded AuthAlgs
 coded_algs = code_by ℕ coded_ℕ algs_number algs_from algs_from-algs_number
-
-abbrev pub quiet_number : IgnoreBroadcastSsid → ℕ
-quiet_number No = 0
-quiet_number Empty = 1
-quiet_number Cleared = 2
 
 abbrev pub quiet_from : ℕ → IgnoreBroadcastSsid
 quiet_from zero = No

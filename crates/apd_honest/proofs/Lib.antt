@@ -1,0 +1,4 @@
+pub mod Begun
+pub mod Marks
+pub mod Outright
+pub mod Upkeep

@@ -1,0 +1,3 @@
+pub mod Maintenance
+pub mod Stores
+pub mod Worlds
