@@ -4,6 +4,7 @@
 # another one.
 here=$(dirname "$(readlink -f "$0")")
 . "$here/testing"
+port=$("$here/free-ports" 2)
 line='bss 02:00:00:00:00:01 mode 0 max 2007 stations 1 accept 0 deny 0'
 
 # What a check of the name must print, and its status.
@@ -57,3 +58,18 @@ wants "--stations store" "bss 02:00:00:00:00:01 mode 0 max 2007 stations 1 accep
 station 02:00:00:00:00:aa associated 1
 accept 02:00:00:00:00:cc
 deny 02:00:00:00:00:dd" 0
+
+# Each of a hundred starts right behind the beginning of a check is served, and so is each check.
+printf 'interface=wlan0\nbssid=02:00:00:00:00:01\nssid=net\n' >conf
+run=1
+while [ "$run" -le 100 ]; do
+    "$program" check store >/dev/null &
+    "$program" run --store store --port "$port" conf </dev/null 2>found || {
+        echo "start $run behind a check:"
+        cat found
+        exit 1
+    }
+    wait $!
+    run=$((run + 1))
+done
+echo "100 starts behind a check"

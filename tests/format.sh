@@ -40,6 +40,24 @@ if [ "$(id -u)" != 0 ]; then
     wants copy "apd: cannot read copy" 1
 fi
 
+# A store that another process holds is waited for: not for long.
+flock store sh -c ': >held; exec sleep 0.7' &
+while [ ! -e held ]; do sleep 0.01; done
+wants store kept 0
+wait
+rm held
+flock store sh -c 'echo $$ >held; exec sleep 10' &
+while [ ! -s held ]; do sleep 0.01; done
+begun=$(date +%s%N)
+wants store "apd: cannot read store" 1
+took=$((($(date +%s%N) - begun) / 1000000))
+if [ "$took" -lt 1900 ] || [ "$took" -gt 5000 ]; then
+    echo "it waited for $took ms"
+    exit 1
+fi
+kill "$(cat held)"
+wait || true
+
 # Killed at a random moment of the time that one takes, twenty times: there is no STORE, or a whole one, and the next one
 # makes or keeps it.
 begun=$(date +%s%N)

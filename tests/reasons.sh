@@ -4,16 +4,19 @@
 # Use: tests/reasons.sh, from anywhere. APD names the program. It ends with status 1 at the first that is another one.
 here=$(dirname "$(readlink -f "$0")")
 . "$here/testing"
-needs flock prlimit python3
+needs flock prlimit python3 setpriv
 port=$("$here/free-ports" 3)
 
-# Runs the program with the words behind the last line that is wanted, and compares what it prints on standard error. Its
-# status must be 1.
+# Runs the program with the words behind the last line that is wanted, under a limit if there is one, and compares what it
+# prints on standard error. Its status must be 1.
+limit=
 wants() {
     printf '%s\n' "$1" >wanted
     shift
     status=0
-    timeout 20 "$program" "$@" </dev/null >/dev/null 2>found || status=$?
+    # (The limit is a command and its words.)
+    # shellcheck disable=SC2086
+    timeout 20 $limit "$program" "$@" </dev/null >/dev/null 2>found || status=$?
     if [ "$status" != 1 ] || ! cmp -s wanted found; then
         echo "apd $*: status $status, and it says"
         cat found
@@ -26,7 +29,7 @@ wants() {
 
 # The line of a file that can't be read, and why.
 unread() {
-    printf 'apd: cannot read %s\n%s: %s' "$1" "$1" "$2"
+    printf 'apd: cannot read %s\napd: %s: %s' "$1" "$1" "$2"
 }
 
 printf 'interface=wlan0\nbssid=02:00:00:00:00:01\nssid=net\n' >conf
@@ -69,6 +72,38 @@ wait "$process" && exit 1
 unread store 'too many open files (ulimit -n)' >wanted
 echo >>wanted
 cmp wanted found
+# Few files: the store, what watches it, or a port is one too many.
+for files in 5 6 7 8; do
+    limit="prlimit --nofile=$files"
+    case $files in
+        5 | 6) why=$(unread store 'too many open files (ulimit -n)') ;;
+        *) why="apd: no socket
+apd: ports from $port on: nobody has them now: one was in use a moment ago, or too many files were open (ulimit -n)" ;;
+    esac
+    wants "$why" run --end-at-fault --store store --port "$port" conf
+done
+limit=
+
+# No store: by its length, or its beginning.
+no_store() {
+    printf 'apd: not a store\napd: %s: %s' "$1" "$2"
+}
+printf RAPSTOR2 >short
+cp store old
+printf 1 | dd of=old bs=1 seek=7 conv=notrunc 2>/dev/null
+head -c 2097216 /dev/zero >zeros
+for words in "check short" "format short" "format --missing short" "script --store short" \
+    "run --store short --port $port conf" "upgrade short new" "upgrade old short"; do
+    # shellcheck disable=SC2086
+    wants "$(no_store short 'it has 8 bytes, and a store 2097216')" $words
+done
+for words in "check zeros" "script --store zeros" "run --store zeros --port $port conf" "upgrade zeros new" \
+    "upgrade zeros short"; do
+    # shellcheck disable=SC2086
+    wants "$(no_store zeros 'it does not begin as a store does')" $words
+done
+[ ! -e new ]
+wants "$(unread ./old 'OLD and NEW are one file')" upgrade old ./old
 mkdir full
 if mount -t tmpfs -o size=1m none full 2>/dev/null; then
     wants "$(unread full/store 'no room on the disk')" format --missing full/store
@@ -110,12 +145,26 @@ time.sleep(30)
 holder=$!
 while [ ! -s bound ]; do sleep 0.05; done
 wants "apd: no socket
-port $((port + 2)): for wlan1: in use by another socket (ss -ulnp)" run --store store --port "$port" conf other
+apd: port $((port + 2)): for wlan1: in use by another socket (ss -ulnp)" run --store store --port "$port" conf other
 wants "apd: no socket
-port $((port + 2)): for control commands: in use by another socket (ss -ulnp)" \
+apd: port $((port + 2)): for control commands: in use by another socket (ss -ulnp)" \
     run --store store --port $((port + 2)) conf
 kill "$holder"
 wait || true
+
+# No thread: this user may have no more processes. (Root always may.)
+cp "$program" mine
+chmod 711 . && chmod 755 mine && chmod 666 store
+limit="prlimit --nproc=1"
+[ "$(id -u)" != 0 ] || limit="setpriv --reuid=65534 --clear-groups prlimit --nproc=1"
+$limit ./mine run --store store --port "$port" conf </dev/null 2>found && exit 1
+tail -n 2 found | tee threads
+cmp - threads <<'END'
+apd: no thread
+apd: threads: as many as this user may have (ulimit -u) or its group of processes (pids.max), or no memory for one more
+END
+limit=
+chmod 600 store
 
 # Faulty lines, of all files.
 {
@@ -125,30 +174,30 @@ wait || true
 } >faulty
 printf '02:00:00:00:00:aa\n02:00:00:00:00:ag\n 02:00:00:00:00:ab\n-02:00:00:00:00:aa remark\n' >accept
 wants "apd: line 1: unknown name
-faulty: line 1: unknown name: interface: a byte order mark stands in front of it
-faulty: line 2: bad value: channel: 0 to 196
-faulty: line 3: bad value: hw_mode: a, b or g; of the value: a blank stands behind it
-faulty: line 4: security is not supported: wpa: 0 alone, since the network is to be open
-faulty: line 5: unknown name: wpa_passphrase: there is no security, and the network is to be open
-faulty: line 6: unknown name: chanel: docs/FORMATS.md has the names
-faulty: line 7: no '=': channel 6: a line is a name, = and a value
-faulty: line 8: no '=':  # remark: a remark has its # in front of all
-faulty: line 9: unknown name: channel : a blank stands behind it
-faulty: line 10: bad value: max_num_sta: 0 to 2007; of the value: a blank stands in front of it
-faulty: line 13: bad value: bssid: an address of no group, as 02:00:00:00:00:01
-faulty: missing interface: 1 to 15 printing characters of ASCII, no blank
-faulty: missing ssid: 1 to 32 bytes
-accept: line 2: bad address: 02:00:00:00:00:ag: an address, as 02:00:00:00:00:aa
-accept: line 3: bad address:  02:00:00:00:00:ab: a blank stands in front of it
-deny: not there" script faulty conf
+apd: faulty: line 1: unknown name: interface: a byte order mark stands in front of it
+apd: faulty: line 2: bad value: channel: 0 to 196
+apd: faulty: line 3: bad value: hw_mode: a, b or g; of the value: a blank stands behind it
+apd: faulty: line 4: security is not supported: wpa: 0 alone, since the network is to be open
+apd: faulty: line 5: unknown name: wpa_passphrase: there is no security, and the network is to be open
+apd: faulty: line 6: unknown name: chanel: docs/FORMATS.md has the names
+apd: faulty: line 7: no '=': channel 6: a line is a name, = and a value
+apd: faulty: line 8: no '=':  # remark: a remark has its # in front of all
+apd: faulty: line 9: unknown name: channel : a blank stands behind it
+apd: faulty: line 10: bad value: max_num_sta: 0 to 2007; of the value: a blank stands in front of it
+apd: faulty: line 13: bad value: bssid: an address of no group, as 02:00:00:00:00:01
+apd: faulty: missing interface: 1 to 15 printing characters of ASCII, no blank
+apd: faulty: missing ssid: 1 to 32 bytes
+apd: accept: line 2: bad address: 02:00:00:00:00:ag: an address, as 02:00:00:00:00:aa
+apd: accept: line 3: bad address:  02:00:00:00:00:ab: a blank stands in front of it
+apd: deny: not there" script faulty conf
 printf 'interface=wlan9\nbssid=02:00:00:00:00:09\nssid=net\ndeny_mac_file=deny\n' >listed
 wants "$(unread deny 'not there')" script conf listed
 awk 'BEGIN { for (i = 0; i < 1025; i++) printf "02:00:00:00:%02x:%02x\n", i / 256, i % 256 }' >deny
 wants "apd: too many addresses
-deny: too many addresses: 1024 at most" script listed
+apd: deny: too many addresses: 1024 at most" script listed
 wants "apd: interface given twice
-conf.0: interface wlan0 is that of conf
-conf.0: bssid 02:00:00:00:00:01 is that of conf" script conf conf.0
+apd: conf.0: interface wlan0 is that of conf
+apd: conf.0: bssid 02:00:00:00:00:01 is that of conf" script conf conf.0
 
 # What is taken as it stands, with a warning.
 printf 'interface=wlan0\nbssid=02:00:00:00:00:01\nssid="net"\n' >quoted

@@ -153,7 +153,7 @@ print("a log that nobody reads stops nothing, and a log of 2,000 lines comes who
 for fault, wanted in [
     ("apd: no socket\napd: port 7001: for wlan0: in use by another socket (ss -ulnp)", 75),
     ("apd: out of memory", 75),
-    ("apd: cannot read my.store\nmy.store: in use by process 1234 (apd)", 75),
+    ("apd: cannot read my.store\napd: my.store: in use by process 1234 (apd)", 75),
     ("apd: cannot read my.store\napd: my.store: in use by another process a moment ago", 75),
     ("apd: cannot read my.store\napd: my.store: not there", 1),
     ("apd: line 3: unknown name\napd: my.conf: line 3: no socket\napd: no socket", 1),

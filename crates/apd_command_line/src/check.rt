@@ -13,7 +13,7 @@ With --stations lines of each station and of each address of a list follow it:
   accept <address>
   deny <address>
 A new store prints nothing. It makes no file and writes nothing, so the store may be a copy that
-nobody may write; one that is in use can't be read. docs/RUN.md has the faults, and what to do
+nobody may write; one that stays in use can't be read. docs/RUN.md has the faults, and what to do
 after 'damaged store'.";
 
 const STATIONS: &str = "Prints each station and each address of a list besides";

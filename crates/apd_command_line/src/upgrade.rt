@@ -8,7 +8,7 @@ const UPGRADE_HELP: &str =
     "Warning: the whole content of NEW, a store's too, is overwritten, without a question asked.
 NEW gets the table of OLD, and 'copied' is printed. OLD is only read, so the earlier version
 can go on with it. Where OLD is refused, or NEW has another length than 2097216 bytes, nothing
-is written; but a NEW that was not there has been made by then, of zeros, and may be removed.
+is written, and a NEW that was made is removed.
 docs/RUN.md has each step, and the way back.";
 
 const OLD: &str = "The file of a store of version 1, which is only read";

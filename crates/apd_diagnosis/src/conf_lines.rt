@@ -2,29 +2,32 @@
 use crate::faulty_line::{
     FaultyAddress, FaultyLine, allowed_at, conf_fault_at, is_bad_address, setting_of,
 };
-use crate::looking::{Purpose, tell_file};
 use crate::more::More;
 use apd_base::limits::MAX_LISTED;
 use apd_conf::{ConfFault, ListFault, MAX_FILE, Required, read_list};
+use apd_site::FileReason;
 use bstr::ByteSlice;
 use std::alloc::{AllocError, Global};
 use std::fs::{self, File};
-use std::io::{self, ErrorKind, Read};
+use std::io::{ErrorKind, Read};
 use std::rt::Files;
 
 /// How many faulty lines are told of one file.
 pub const MOST_LINES: usize = 1_000;
 
 // The bytes of a regular file; another one may give them only once.
-fn bytes_of(rt: &(impl Files<File = File> + AllocGlobal), name: &str) -> io::Result<Vec<u8>> {
-    if !fs::metadata(rt, name)?.is_file() {
-        return Err(ErrorKind::InvalidInput.into());
+fn bytes_of(
+    rt: &(impl Files<File = File> + AllocGlobal),
+    name: &str,
+) -> Result<Vec<u8>, FileReason> {
+    if let Some(reason) = FileReason::of_kind(&fs::metadata(rt, name)?) {
+        return Err(reason);
     }
     let mut bytes = Vec::new(rt.alloc());
     let mut file = File::open(rt, name)?.take(MAX_FILE as u64 + 1);
     file.read_to_end(&mut bytes)?;
     if bytes.len() > MAX_FILE {
-        return Err(ErrorKind::FileTooLarge.into());
+        return Err(FileReason::TooLong);
     }
     Ok(bytes)
 }
@@ -37,9 +40,9 @@ pub(crate) fn read_or_tell(
 ) -> Result<Option<Vec<u8>>, AllocError> {
     match bytes_of(rt, name) {
         Ok(bytes) => Ok(Some(bytes)),
-        Err(error) if error.kind() == ErrorKind::OutOfMemory => Err(AllocError),
-        Err(_) => {
-            tell_file(rt, more, name, Purpose::Text, 0)?;
+        Err(FileReason::System(error)) if error.kind() == ErrorKind::OutOfMemory => Err(AllocError),
+        Err(reason) => {
+            more.tell(name, reason)?;
             Ok(None)
         }
     }

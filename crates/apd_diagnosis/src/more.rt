@@ -1,4 +1,5 @@
 //! The lines behind a fault's own.
+use apd_site::OpenFault;
 use std::alloc::{AllocError, Global};
 use std::fmt::Display;
 
@@ -16,9 +17,17 @@ impl More {
         }
     }
 
-    /// Tells one more line of a file or another thing of this name.
+    /// Tells one more line of a file or another thing of this name. It begins as a fault's line does.
     pub fn tell(&mut self, name: &str, what: impl Display + Drop) -> Result<(), AllocError> {
-        writeln!(self.text, "{name}: {what}")
+        writeln!(self.text, "apd: {name}: {what}")
+    }
+
+    /// Tells why a file was not had.
+    pub fn tell_unopened(&mut self, fault: &OpenFault) -> Result<(), AllocError> {
+        match fault {
+            OpenFault::CannotRead(name, reason) => self.tell(name.as_str(), reason),
+            OpenFault::NoMemory => Ok(()),
+        }
     }
 
     /// The lines.

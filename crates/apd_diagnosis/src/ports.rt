@@ -1,13 +1,10 @@
 //! Why a port was not had.
-use crate::file_reason::Words;
-use crate::looking::hold_files;
 use crate::more::More;
+use apd_site::Words;
 use std::alloc::AllocError;
 use std::fmt::{self, Display, Formatter};
-use std::fs::File;
 use std::io::{self, ErrorKind};
 use std::net::{Ipv4Addr, Net, UdpSocket};
-use std::rt::Files;
 
 /// What a port is for.
 #[derive(Clone, Copy, Debug, PartialEq, Eq)]
@@ -45,13 +42,14 @@ impl Display for PortReason<'_> {
     }
 }
 
-// Binds these ports, one above the other from the first one on, and tells of each that it can't, and why.
+// Binds these ports, one above the other from the first one on, tells of each that it can't, and why, and answers whether
+// it could all.
 fn tell_unbound(
     rt: &(impl Net + AllocGlobal),
     more: &mut More,
     first: u16,
     uses: &[PortUse<'_>],
-) -> Result<(), AllocError> {
+) -> Result<bool, AllocError> {
     let mut bound = Vec::new(rt.alloc());
     let mut port = first;
     for used in uses {
@@ -64,33 +62,23 @@ fn tell_unbound(
         }
         port = port.saturating_add(1);
     }
-    Ok(())
+    Ok(bound.len() == uses.len())
 }
 
-/// Tells which of these ports can't be had, one above the other from the first one on, what each is for, and why. So many
-/// files were open at the time of the fault.
+/// Tells which of these ports can't be had, one above the other from the first one on, what each is for, and why. Where
+/// all can be had by now, it tells what may have kept one away.
 pub fn tell_ports(
-    rt: &(impl Files<File = File> + Net + AllocGlobal),
+    rt: &(impl Net + AllocGlobal),
     more: &mut More,
     first: u16,
     uses: &[PortUse<'_>],
-    others: usize,
 ) -> Result<(), AllocError> {
-    match hold_files(rt, others) {
-        Ok(held) => {
-            tell_unbound(rt, more, first, uses)?;
-            drop(held);
-            Ok(())
-        }
-        Err(error) => {
-            let name = format!(in rt.alloc(); "port {first}")?;
-            more.tell(
-                name.as_str(),
-                PortReason {
-                    used: PortUse::Control,
-                    error,
-                },
-            )
-        }
+    if tell_unbound(rt, more, first, uses)? {
+        let name = format!(in rt.alloc(); "ports from {first} on")?;
+        more.tell(
+            name.as_str(),
+            "nobody has them now: one was in use a moment ago, or too many files were open (ulimit -n)",
+        )?;
     }
+    Ok(())
 }

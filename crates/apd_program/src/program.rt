@@ -6,7 +6,7 @@ use crate::telling::tell;
 use crate::telling_more::tell_more;
 use apd_command_line::{command, no_text, refuse_ports, words};
 use apd_diagnosis::More;
-use apd_subcommands::{hold_closed_streams, tell_stream, work_on_files};
+use apd_subcommands::{hold_closed_streams, work_on_files};
 use clap::ArgMatches;
 use std::io;
 use std::process::ExitCode;
@@ -79,7 +79,7 @@ pub fn run_program<R: Env + Host>(rt: &R) -> io::Result<ExitCode> {
     let streams = match hold_closed_streams(rt) {
         Ok(streams) => streams,
         Err(fault) => {
-            let _ = tell_stream(rt, &mut more, &fault);
+            let _ = more.tell_unopened(&fault);
             return tell_all(rt, Err(ProgramFault::Stream(fault)), &more);
         }
     };

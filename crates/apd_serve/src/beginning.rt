@@ -16,6 +16,7 @@ use apd_world::{World, WorldFault, begin_anew, slots_for};
 use std::alloc::Global;
 use std::fs::File;
 use std::rt::Files;
+use std::time::Clock;
 
 /// A store that was opened, and its table.
 #[derive(Drop)]
@@ -38,7 +39,7 @@ impl OpenStore {
 /// Errors: `Open` where the file can't be opened, as where another process holds it; `World` with `Store` where the
 /// store is refused; `NoMemory`.
 pub fn open_store(
-    rt: &(impl Files<File = File> + AllocGlobal),
+    rt: &(impl Files<File = File> + Clock + AllocGlobal),
     name: &str,
     known: FileRecord,
 ) -> Result<OpenStore, RunFault>

@@ -94,7 +94,7 @@ struct SiteFiles<'a> {
 }
 
 fn open_files<'a>(
-    rt: &(impl Files<File = File> + AllocGlobal),
+    rt: &(impl Files<File = File> + Clock + AllocGlobal),
     confs: &Confs,
     site: &Site<'a>,
 ) -> Result<SiteFiles<'a>, RunFault> {

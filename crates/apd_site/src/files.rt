@@ -1,4 +1,5 @@
 //! The files of a site beside its store.
+use crate::file_reason::FileReason;
 use crate::identity::Identity;
 use crate::opening::{OpenFault, file_or_fault};
 use crate::recordings::{RecordingFile, open_recordings};
@@ -15,7 +16,8 @@ pub fn open_watch<'a>(
     rt: &(impl Files<File = File> + AllocGlobal),
     name: &'a str,
 ) -> Result<StoreWatch<'a>, OpenFault> {
-    file_or_fault(rt, name, StoreWatch::open(rt, name))
+    let opened = StoreWatch::open(rt, name).map_err(FileReason::from);
+    file_or_fault(rt, name, opened)
 }
 
 // The files that no recording may be made over: the store, those of the configurations, and the list files that

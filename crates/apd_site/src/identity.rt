@@ -33,3 +33,14 @@ impl Identity {
         self.device == other.device && self.node == other.node
     }
 }
+
+/// Whether two names are of one file.
+pub fn are_one_file(files: &impl Files<File = File>, one: &str, other: &str) -> bool {
+    match (
+        Identity::of_name(files, one),
+        Identity::of_name(files, other),
+    ) {
+        (Some(one), Some(other)) => one.is_same(other),
+        _ => false,
+    }
+}

@@ -1,9 +1,11 @@
 //! The files of recordings.
+use crate::file_reason::FileReason;
 use crate::identity::Identity;
-use crate::opening::{OpenFault, file_or_fault};
+use crate::locks::holder_of;
+use crate::opening::{Access, OpenFault, file_or_fault};
 use apd_store::{MAGIC, OLD_MAGIC};
 use std::alloc::AllocError;
-use std::fs::File;
+use std::fs::{File, TryLockError};
 use std::io::{self, ErrorKind};
 use std::os::unix::fs::{FileExt, OpenOptionsExt};
 use std::rt::Files;
@@ -18,8 +20,8 @@ pub struct RecordingFile {
     pub(crate) file: File,
 }
 
-// Whether a file begins as a store of either version does. No such file becomes a recording.
-fn begins_as_a_store(file: &File) -> io::Result<bool> {
+/// Whether a file begins as a store of either version does. No such file becomes a recording.
+pub fn begins_as_a_store(file: &File) -> io::Result<bool> {
     let mut head = [0u8; MAGIC.len()];
     match file.read_exact_at(&mut head, 0) {
         Ok(()) => Ok(head == MAGIC || head == OLD_MAGIC),
@@ -28,33 +30,58 @@ fn begins_as_a_store(file: &File) -> io::Result<bool> {
     }
 }
 
-// Locks a file that may be emptied.
-//
-// Errors: `InvalidInput` where it is no regular file, one of those that are taken, or begins as a store does;
-// `WouldBlock` where it is locked.
-fn claim(file: &File, taken: &[Identity]) -> io::Result<()> {
-    let metadata = file.metadata()?;
-    let own = Identity::of(&metadata);
-    if !metadata.is_file() || taken.iter().any(|other| own.is_same(*other)) {
-        return Err(ErrorKind::InvalidInput.into());
+// Locks a file that is going to be emptied.
+fn lock(rt: &(impl Files<File = File> + AllocGlobal), file: &File) -> Result<(), FileReason> {
+    match file.try_lock() {
+        Ok(()) => Ok(()),
+        Err(TryLockError::WouldBlock) => {
+            let holder = holder_of(rt, &file.metadata()?, Access::Write);
+            Err(FileReason::InUse(holder))
+        }
+        Err(TryLockError::Error(error)) => Err(error.into()),
     }
-    file.try_lock()?;
+}
+
+// Locks a file that may be emptied: a regular one that isn't taken, nor begins as a store does.
+fn claim(
+    rt: &(impl Files<File = File> + AllocGlobal),
+    file: &File,
+    taken: &[Identity],
+) -> Result<(), FileReason> {
+    let metadata = file.metadata()?;
+    if let Some(reason) = FileReason::of_kind(&metadata) {
+        return Err(reason);
+    }
+    let own = Identity::of(&metadata);
+    if taken.iter().any(|other| own.is_same(*other)) {
+        return Err(FileReason::IsKept);
+    }
+    lock(rt, file)?;
     if begins_as_a_store(file)? {
-        return Err(ErrorKind::InvalidInput.into());
+        return Err(FileReason::IsStore);
     }
     Ok(())
 }
 
 // The file of a name, which is made where there is none, and claimed. What it holds stays.
-fn open(files: &impl Files<File = File>, name: &str, taken: &[Identity]) -> io::Result<File> {
-    let file = File::options()
+fn open(
+    rt: &(impl Files<File = File> + AllocGlobal),
+    name: &str,
+    taken: &[Identity],
+) -> Result<File, FileReason> {
+    let opened = File::options()
         .read(true)
         .write(true)
         .create(true)
         .mode(MODE)
-        .open(files, name)?;
-    claim(&file, taken)?;
-    Ok(file)
+        .open(rt, name);
+    match opened {
+        Ok(file) => {
+            claim(rt, &file, taken)?;
+            Ok(file)
+        }
+        Err(error) => Err(FileReason::of_making(rt, name, error)),
+    }
 }
 
 /// Opens the files of so many recordings, none of which is one of those that are taken. What they hold stays.
@@ -86,7 +113,7 @@ pub(crate) fn empty_files(
     recordings: &[RecordingFile],
 ) -> Result<(), OpenFault> {
     for recording in recordings {
-        let emptied = recording.file.set_len(0);
+        let emptied = recording.file.set_len(0).map_err(FileReason::from);
         file_or_fault(rt, recording.name.as_str(), emptied)?;
     }
     Ok(())

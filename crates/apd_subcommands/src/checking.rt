@@ -12,11 +12,12 @@ use clap::ArgMatches;
 use std::fs::File;
 use std::io::Write;
 use std::rt::Files;
+use std::time::Clock;
 
 /// Prints what the store of the file of this name, of which this is known, has. Where what it answered is what it held by
 /// that, this is the table that it shows, and that a loss of power leaves.
 pub fn check_file<W: Write>(
-    rt: &(impl Files<File = File> + AllocGlobal),
+    rt: &(impl Files<File = File> + Clock + AllocGlobal),
     name: &str,
     known: FileRecord,
     detail: Detail,
@@ -34,7 +35,7 @@ pub fn check_file<W: Write>(
 
 /// Prints what the store of the file of this name has.
 pub fn check_and_print(
-    rt: &(impl Files<File = File> + AllocGlobal),
+    rt: &(impl Files<File = File> + Clock + AllocGlobal),
     name: &str,
     writer: &mut impl Write,
 ) -> Result<(), CommandFault> {
@@ -44,7 +45,7 @@ pub fn check_and_print(
 
 /// Does what the subcommand's words say.
 pub fn run_check_command(
-    rt: &(impl Files<File = File> + AllocGlobal),
+    rt: &(impl Files<File = File> + Clock + AllocGlobal),
     matches: &ArgMatches<'_>,
     writer: &mut impl Write,
 ) -> Result<(), CommandFault> {

@@ -9,10 +9,11 @@ use log::Log;
 use std::fs::File;
 use std::io;
 use std::rt::Files;
+use std::time::Clock;
 
 /// Does what a subcommand that serves nobody says.
 pub fn work_on_files(
-    rt: &(impl Input + Print + Files<File = File> + AllocGlobal + Log),
+    rt: &(impl Input + Print + Files<File = File> + Clock + AllocGlobal + Log),
     matches: &ArgMatches<'_>,
 ) -> Result<(), CommandFault> {
     if let Some(check) = matches.subcommand_matches("check") {

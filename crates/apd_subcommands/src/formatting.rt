@@ -10,16 +10,17 @@ use crate::fault::CommandFault;
 use crate::naming::{create_beside, give_name};
 use apd_disk::{FileDisk, FileRecord};
 use apd_maintenance::{FormatFault, run_format, run_format_missing};
-use apd_site::{Access, file_or_fault, open_disk};
+use apd_site::{Access, FileReason, file_or_fault, open_disk};
 use clap::ArgMatches;
 use std::fs::{self, File};
-use std::io::{ErrorKind, Write};
+use std::io::{self, Write};
 use std::rt::Files;
+use std::time::Clock;
 
 /// Makes the file of this name, of which this is known, a new store, and says so. Where what it answered is what it held
 /// by that, it is then a store of the empty table, and so is all that a loss of power leaves of it.
 pub fn format_file<W: Write>(
-    rt: &(impl Files<File = File> + AllocGlobal),
+    rt: &(impl Files<File = File> + Clock + AllocGlobal),
     name: &str,
     known: FileRecord,
     writer: &mut W,
@@ -34,6 +35,16 @@ pub fn format_file<W: Write>(
     }
 }
 
+// What was made for the file of this name, or why it wasn't.
+fn made_or_fault<T: Drop>(
+    rt: &(impl Files<File = File> + AllocGlobal),
+    name: &str,
+    made: io::Result<T>,
+) -> Result<T, CommandFault> {
+    let made = made.map_err(|error| FileReason::of_making(rt, name, error));
+    file_or_fault(rt, name, made).map_err(CommandFault::Open)
+}
+
 // Makes a new store beside the path, gives it the name once it is one, and then says so.
 fn make_and_print(
     rt: &(impl Files<File = File> + AllocGlobal),
@@ -41,7 +52,7 @@ fn make_and_print(
     writer: &mut impl Write,
 ) -> Result<(), CommandFault> {
     let created = create_beside(rt, name);
-    let (disk, beside) = file_or_fault(rt, name, created).map_err(CommandFault::Open)?;
+    let (disk, beside) = made_or_fault(rt, name, created)?;
     let mut told = Vec::new(rt.alloc());
     let made = run_format(rt.alloc(), disk, &mut told);
     let named = match &made {
@@ -52,7 +63,7 @@ fn make_and_print(
     if let Err((_, fault)) = made {
         return Err(CommandFault::Format(fault));
     }
-    file_or_fault(rt, name, named).map_err(CommandFault::Open)?;
+    made_or_fault(rt, name, named)?;
     match writer.write_all(&told) {
         Ok(()) => Ok(()),
         Err(_) => Err(CommandFault::Format(FormatFault::Writer)),
@@ -79,24 +90,23 @@ pub fn keep_or_format<W: Write>(
 /// Makes the file of this name a new store where there is none, or where it holds zeros alone; a store that is there
 /// stays. It says which.
 fn format_missing_and_print(
-    rt: &(impl Files<File = File> + AllocGlobal),
+    rt: &(impl Files<File = File> + Clock + AllocGlobal),
     name: &str,
     writer: &mut impl Write,
 ) -> Result<(), CommandFault> {
-    let opened = match FileDisk::open(rt, name) {
-        Err(error) if error.kind() == ErrorKind::NotFound => {
-            return make_and_print(rt, name, writer);
+    match open_disk(rt, name, Access::Write) {
+        Ok(disk) => {
+            keep_or_format(rt, disk, FileRecord::new(), writer)?;
+            Ok(())
         }
-        opened => opened,
-    };
-    let disk = file_or_fault(rt, name, opened).map_err(CommandFault::Open)?;
-    keep_or_format(rt, disk, FileRecord::new(), writer)?;
-    Ok(())
+        Err(fault) if fault.is_not_there() => make_and_print(rt, name, writer),
+        Err(fault) => Err(CommandFault::Open(fault)),
+    }
 }
 
 /// Does what the subcommand's words say.
 pub fn run_format_command(
-    rt: &(impl Files<File = File> + AllocGlobal),
+    rt: &(impl Files<File = File> + Clock + AllocGlobal),
     matches: &ArgMatches<'_>,
     writer: &mut impl Write,
 ) -> Result<(), CommandFault> {

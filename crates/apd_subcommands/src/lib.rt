@@ -19,6 +19,6 @@ pub use fault::CommandFault;
 pub use formatting::{format_file, keep_or_format, run_format_command};
 pub use scripting::run_script_of_input;
 pub use streams::hold_closed_streams;
-pub use telling_more::{names_of, tell_configurations, tell_more_of_command, tell_stream};
+pub use telling_more::{names_of, tell_configurations, tell_more_of_command};
 pub use upgrading::{upgrade_and_print, upgrade_files};
 pub use warnings::warn_of_ssids;

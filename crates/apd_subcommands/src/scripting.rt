@@ -11,10 +11,11 @@ use log::Log;
 use std::fs::File;
 use std::io::{self, BufRead, BufReader};
 use std::rt::Files;
+use std::time::Clock;
 
 // Runs a script on the store of the file of this name, and prints what it tells.
 fn run_script_on_file(
-    rt: &(impl Print + Files<File = File> + AllocGlobal),
+    rt: &(impl Print + Files<File = File> + Clock + AllocGlobal),
     name: &str,
     confs: Confs,
     reader: impl BufRead + Drop,
@@ -46,7 +47,7 @@ fn run_script_in_memory(
 }
 
 fn run_script(
-    rt: &(impl Print + Files<File = File> + AllocGlobal),
+    rt: &(impl Print + Files<File = File> + Clock + AllocGlobal),
     store: Option<&str>,
     confs: Confs,
     reader: impl BufRead + Drop,
@@ -59,7 +60,7 @@ fn run_script(
 
 // Runs the script on standard input with these configurations.
 fn run_script_with(
-    rt: &(impl Input + Print + Files<File = File> + AllocGlobal),
+    rt: &(impl Input + Print + Files<File = File> + Clock + AllocGlobal),
     store: Option<&str>,
     confs: Confs,
 ) -> Result<(), CommandFault> {
@@ -72,7 +73,7 @@ fn run_script_with(
 /// Runs the script on standard input, with the configurations of these files, on the store of the file of
 /// this name, or on a new one in memory.
 pub fn run_script_of_input(
-    rt: &(impl Input + Print + Files<File = File> + AllocGlobal),
+    rt: &(impl Input + Print + Files<File = File> + Clock + AllocGlobal),
     store: Option<&str>,
     names: &[&str],
 ) -> Result<(), CommandFault> {
@@ -82,7 +83,7 @@ pub fn run_script_of_input(
 
 /// Does what the subcommand's words say. What is odd about the configurations is logged.
 pub(crate) fn run_script_command(
-    rt: &(impl Input + Print + Files<File = File> + AllocGlobal + Log),
+    rt: &(impl Input + Print + Files<File = File> + Clock + AllocGlobal + Log),
     matches: &ArgMatches<'_>,
 ) -> Result<(), CommandFault> {
     let names = names_of(matches);

@@ -1,6 +1,6 @@
 //! Standard streams that are closed. The next file that is opened would get the descriptor of one of them, and what
 //! is printed would be written into it: so none is left closed.
-use apd_site::{OpenFault, file_or_fault};
+use apd_site::{FileReason, OpenFault, file_or_fault};
 use std::fs::File;
 use std::os::fd::AsRawFd;
 use std::rt::Files;
@@ -19,7 +19,7 @@ pub fn hold_closed_streams(
     let mut held = Vec::new(rt.alloc());
     for _ in 0..=LAST_STREAM {
         let file = File::options().read(true).write(true).open(rt, NOTHING);
-        let file = file_or_fault(rt, NOTHING, file)?;
+        let file = file_or_fault(rt, NOTHING, file.map_err(FileReason::from))?;
         if file.as_raw_fd() > LAST_STREAM {
             break;
         }

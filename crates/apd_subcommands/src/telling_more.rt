@@ -1,8 +1,11 @@
-//! What is told behind a fault's line: why a file was not had, and what is wrong with configurations.
+//! What is told behind a fault's line: why a file was not had or is no store, and what is wrong with configurations.
 use crate::fault::CommandFault;
 use apd_conf::ConfigurationFault;
-use apd_diagnosis::{More, Purpose, tell_conf_file, tell_file, tell_repeats};
-use apd_site::{Access, OpenFault, open_disk};
+use apd_diagnosis::{More, tell_conf_file, tell_no_store, tell_repeats};
+use apd_maintenance::{CheckFault, FormatFault, UpgradeFault};
+use apd_script::ScriptFault;
+use apd_store::StoreFault;
+use apd_world::WorldFault;
 use clap::ArgMatches;
 use std::alloc::AllocError;
 use std::fs::File;
@@ -30,50 +33,47 @@ pub fn tell_configurations(
     }
     match fault {
         ConfigurationFault::CannotRead(name) if more.is_empty() => {
-            tell_file(rt, more, name.as_str(), Purpose::Text, 0)
+            more.tell(name.as_str(), "nothing is in its way any more")
         }
         _ => Ok(()),
     }
 }
 
-// Tells why one of the two files of an upgrade was not had. Where the old one can be had now, it was the new one.
-fn tell_upgrade(
-    rt: &(impl Files<File = File> + AllocGlobal),
-    more: &mut More,
-    words: &ArgMatches<'_>,
-) -> Result<(), AllocError> {
-    let old = words.get_str("OLD").unwrap_or("");
-    let new = words.get_str("NEW").unwrap_or("");
-    match open_disk(rt, old, Access::Read) {
-        Ok(held) => {
-            tell_file(rt, more, new, Purpose::NewStore, 0)?;
-            drop(held);
-            Ok(())
-        }
-        Err(_) => tell_file(rt, more, old, Purpose::StoreToRead, 0),
+// The fault of a store that a subcommand met, if it is one.
+fn store_fault_of(fault: &CommandFault) -> Option<StoreFault> {
+    match fault {
+        CommandFault::Check(CheckFault::Store(fault))
+        | CommandFault::Format(FormatFault::Store(fault))
+        | CommandFault::Upgrade(UpgradeFault::Store(fault))
+        | CommandFault::Script(ScriptFault::World(WorldFault::Store(fault))) => Some(*fault),
+        _ => None,
     }
 }
 
-// Tells why a store's file was not had.
-fn tell_store(
-    rt: &(impl Files<File = File> + AllocGlobal),
+// Tells which file of a subcommand is no store, and why.
+fn tell_no_store_of(
+    rt: &impl Files<File = File>,
     more: &mut More,
     words: &ArgMatches<'_>,
-    name: &str,
 ) -> Result<(), AllocError> {
     if let Some(upgrade) = words.subcommand_matches("upgrade") {
-        return tell_upgrade(rt, more, upgrade);
+        let old = upgrade.get_str("OLD").unwrap_or("");
+        let new = upgrade.get_str("NEW").unwrap_or("");
+        return tell_no_store(rt, more, &[old, new]);
     }
-    let purpose = match words.subcommand_name() {
-        Some("check") => Purpose::StoreToRead,
-        Some("format") => Purpose::NewStore,
-        _ => Purpose::Store,
-    };
-    tell_file(rt, more, name, purpose, 0)
+    if let Some(script) = words.subcommand_matches("script") {
+        return tell_no_store(rt, more, &[script.get_str("store").unwrap_or("")]);
+    }
+    for name in ["check", "format"] {
+        if let Some(words) = words.subcommand_matches(name) {
+            return tell_no_store(rt, more, &[words.get_str("STORE").unwrap_or("")]);
+        }
+    }
+    Ok(())
 }
 
-/// Tells more of a fault that the subcommand of these words met: why a file was not had, by asking the system once more,
-/// and each faulty line of the files of configurations. Of other faults nothing.
+/// Tells more of a fault that the subcommand of these words met: why a file was not had or is no store, and each faulty
+/// line of the files of configurations. Of other faults nothing.
 pub fn tell_more_of_command(
     rt: &(impl Files<File = File> + AllocGlobal),
     more: &mut More,
@@ -81,25 +81,14 @@ pub fn tell_more_of_command(
     fault: &CommandFault,
 ) -> Result<(), AllocError> {
     match fault {
-        CommandFault::Open(OpenFault::CannotRead(name)) => {
-            tell_store(rt, more, words, name.as_str())
-        }
+        CommandFault::Open(fault) => more.tell_unopened(fault),
         CommandFault::Configuration(fault) => match words.subcommand_matches("script") {
             Some(script) => tell_configurations(rt, more, fault, names_of(script)),
             None => Ok(()),
         },
+        _ if store_fault_of(fault) == Some(StoreFault::NotAStore) => {
+            tell_no_store_of(rt, more, words)
+        }
         _ => Ok(()),
-    }
-}
-
-/// Tells why a stream was not had.
-pub fn tell_stream(
-    rt: &(impl Files<File = File> + AllocGlobal),
-    more: &mut More,
-    fault: &OpenFault,
-) -> Result<(), AllocError> {
-    match fault {
-        OpenFault::CannotRead(name) => tell_file(rt, more, name.as_str(), Purpose::Stream, 0),
-        OpenFault::NoMemory => Ok(()),
     }
 }

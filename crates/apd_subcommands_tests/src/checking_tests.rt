@@ -12,9 +12,13 @@ use std::fs::{self, File};
 use std::os::unix::fs::FileExt;
 use std::process::Abort;
 use std::rt::Files;
+use std::time::Clock;
 
 /// What `apd check` prints, and then its fault as the program prints it.
-pub fn check_output(rt: &(impl Abort + Files<File = File> + AllocGlobal), name: &str) -> Vec<u8> {
+pub fn check_output(
+    rt: &(impl Abort + Files<File = File> + Clock + AllocGlobal),
+    name: &str,
+) -> Vec<u8> {
     let mut out = Vec::new(rt.alloc());
     if let Err(fault) = check_and_print(rt, name, &mut out) {
         add_fault(rt, &fault, &mut out);
@@ -24,7 +28,7 @@ pub fn check_output(rt: &(impl Abort + Files<File = File> + AllocGlobal), name: 
 
 /// Expects that it prints this.
 pub fn expect_check(
-    rt: &(impl Abort + Files<File = File> + AllocGlobal),
+    rt: &(impl Abort + Files<File = File> + Clock + AllocGlobal),
     name: &str,
     wanted: &[u8],
 ) {
@@ -52,7 +56,7 @@ fn a_store_is_told_of_and_left_as_it_was(rt: HostRuntime) {
 }
 
 /// Two interfaces, at 02:00:00:00:00:01 and 02:00:00:00:00:02, the greater one first.
-fn two_interfaces(rt: &(impl Abort + Files<File = File> + AllocGlobal)) -> Confs {
+fn two_interfaces(rt: &(impl Abort + Files<File = File> + Clock + AllocGlobal)) -> Confs {
     let names = ["wlan1.check_test", "wlan0.check_test"];
     write(
         rt,
@@ -78,7 +82,7 @@ const TWO_LINES: &[u8] =
     b"bss 02:00:00:00:00:01 mode 0 max 2007 stations 0 accept 1 deny 2\nbss 02:00:00:00:00:02 mode 0 max 2007 stations 1 accept 0 deny 1\n";
 
 /// Makes the file of a name a store with these.
-fn make_store_of_two(rt: &(impl Abort + Files<File = File> + AllocGlobal), name: &str) {
+fn make_store_of_two(rt: &(impl Abort + Files<File = File> + Clock + AllocGlobal), name: &str) {
     let alloc = rt.alloc();
     make_store(rt, name);
     let confs = two_interfaces(rt);
@@ -97,7 +101,7 @@ fn each_interface_has_a_line_in_order(rt: HostRuntime) {
 
 /// Why `apd check --stations` of the file of a name fails, if it does.
 fn stations_fault_of(
-    rt: &(impl Abort + Files<File = File> + AllocGlobal),
+    rt: &(impl Abort + Files<File = File> + Clock + AllocGlobal),
     name: &str,
     out: &mut Vec<u8>,
 ) -> Option<CommandFault> {
@@ -111,7 +115,7 @@ fn stations_fault_of(
 
 /// Expects that it prints this, with its fault as the program prints it.
 fn expect_stations(
-    rt: &(impl Abort + Files<File = File> + AllocGlobal),
+    rt: &(impl Abort + Files<File = File> + Clock + AllocGlobal),
     name: &str,
     wanted: &[u8],
 ) {
@@ -162,7 +166,7 @@ fn no_station_of_what_is_refused_is_told(rt: HostRuntime) {
 /// Expects that this is told of a store with these bytes from a place on in the place of its own, which it has again
 /// afterwards.
 fn expect_check_with(
-    rt: &(impl Abort + Files<File = File> + AllocGlobal),
+    rt: &(impl Abort + Files<File = File> + Clock + AllocGlobal),
     name: &str,
     (place, others, wanted): (usize, &[u8], &[u8]),
 ) {
@@ -227,7 +231,11 @@ fn a_store_of_version_1_is_told_of_and_left_as_it_was(rt: HostRuntime) {
 }
 
 // Makes a file of so many zeros.
-fn write_zeros(rt: &(impl Abort + Files<File = File> + AllocGlobal), name: &str, length: usize) {
+fn write_zeros(
+    rt: &(impl Abort + Files<File = File> + Clock + AllocGlobal),
+    name: &str,
+    length: usize,
+) {
     let zeros = vec![in rt.alloc(); 0u8; length].expect(rt, "memory");
     write(rt, name, zeros.as_slice());
 }
@@ -248,7 +256,7 @@ fn what_is_no_store_is_told_of(rt: HostRuntime) {
 }
 
 // A check goes beside one that has the store open, and a start doesn't.
-fn check_beside_a_check(rt: &(impl Abort + Files<File = File> + AllocGlobal), name: &str) {
+fn check_beside_a_check(rt: &(impl Abort + Files<File = File> + Clock + AllocGlobal), name: &str) {
     let looking = open(rt, name, Access::Read);
     expect_check(rt, name, b"");
     hold(rt, open_disk(rt, name, Access::Write).is_err());
@@ -257,7 +265,7 @@ fn check_beside_a_check(rt: &(impl Abort + Files<File = File> + AllocGlobal), na
 
 // A check doesn't go beside a start that has the store open.
 fn check_beside_a_start(
-    rt: &(impl Abort + Files<File = File> + AllocGlobal),
+    rt: &(impl Abort + Files<File = File> + Clock + AllocGlobal),
     name: &str,
     refused: &[u8],
 ) {

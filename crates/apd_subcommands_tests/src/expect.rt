@@ -6,6 +6,7 @@ use std::fmt::Debug;
 use std::fs::{self, File};
 use std::process::Abort;
 use std::rt::Files;
+use std::time::Clock;
 
 /// Ends the test where what was found isn't what was wanted, and prints both.
 pub fn expect<T: PartialEq + Debug + Drop>(rt: &impl Abort, found: T, wanted: T) {
@@ -39,7 +40,7 @@ pub fn remove_any(rt: &impl Files<File = File>, name: &str) {
 
 /// The file of a name as a disk.
 pub fn open(
-    rt: &(impl Abort + Files<File = File> + AllocGlobal),
+    rt: &(impl Abort + Files<File = File> + Clock + AllocGlobal),
     name: &str,
     access: Access,
 ) -> FileDisk {

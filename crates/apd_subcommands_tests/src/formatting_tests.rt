@@ -8,6 +8,7 @@ use apd_subcommands::CommandFault;
 use std::fs::File;
 use std::process::Abort;
 use std::rt::Files;
+use std::time::Clock;
 
 /// What a store begins with.
 const MAGIC: &[u8] = b"RAPSTOR2";
@@ -16,7 +17,7 @@ const MAGIC: &[u8] = b"RAPSTOR2";
 const HEAD: &[u8] = &[1, 1, 0, 0, 0, 0, 0, 0, 0, 0, 0, 0, 0, 0];
 
 /// The number of station rows in the store of a file.
-fn rows_of(rt: &(impl Abort + Files<File = File> + AllocGlobal), name: &str) -> usize {
+fn rows_of(rt: &(impl Abort + Files<File = File> + Clock + AllocGlobal), name: &str) -> usize {
     let disk = FileDisk::open(rt, name).expect(rt, "a store that can be opened");
     let recovered = recover(rt.alloc(), disk).ok();
     let (store, table) = recovered.expect(rt, "a store");
@@ -28,7 +29,7 @@ fn rows_of(rt: &(impl Abort + Files<File = File> + AllocGlobal), name: &str) -> 
 
 /// Expects this, and these words, where the file of a name is made a store.
 fn expect_format(
-    rt: &(impl Abort + Files<File = File> + AllocGlobal),
+    rt: &(impl Abort + Files<File = File> + Clock + AllocGlobal),
     name: &str,
     fault: Option<FormatFault>,
     printed: &[u8],
@@ -40,7 +41,7 @@ fn expect_format(
 }
 
 /// Expects that the file of a name begins as an empty store does.
-fn expect_front(rt: &(impl Abort + Files<File = File> + AllocGlobal), name: &str) {
+fn expect_front(rt: &(impl Abort + Files<File = File> + Clock + AllocGlobal), name: &str) {
     let bytes = read(rt, name);
     expect(rt, bytes.len(), 2_097_216);
     expect(rt, bytes.get(..8), Some(MAGIC));
@@ -77,7 +78,7 @@ pub fn expect_text(rt: &(impl Abort + AllocGlobal), told: &CommandFault, wanted:
 }
 
 /// Expects the fault of a store in a folder that isn't there.
-fn expect_no_folder(rt: &(impl Abort + Files<File = File> + AllocGlobal)) {
+fn expect_no_folder(rt: &(impl Abort + Files<File = File> + Clock + AllocGlobal)) {
     let opened = open_disk(rt, "no_folder_of_a_test/store", Access::Make).err();
     let told = CommandFault::Open(opened.expect(rt, "a fault"));
     expect_text(rt, &told, "cannot read no_folder_of_a_test/store");

@@ -12,10 +12,11 @@ use std::io::Write;
 use std::os::unix::fs::symlink;
 use std::process::Abort;
 use std::rt::Files;
+use std::time::Clock;
 
 /// Why `apd format --missing` of the file of a name fails, if it does.
 fn fault_of(
-    rt: &(impl Abort + Files<File = File> + AllocGlobal),
+    rt: &(impl Abort + Files<File = File> + Clock + AllocGlobal),
     name: &str,
     writer: &mut impl Write,
 ) -> Option<CommandFault> {
@@ -28,7 +29,11 @@ fn fault_of(
 }
 
 /// Expects that it prints this, with its fault as the program prints it.
-fn expect_missing(rt: &(impl Abort + Files<File = File> + AllocGlobal), name: &str, wanted: &[u8]) {
+fn expect_missing(
+    rt: &(impl Abort + Files<File = File> + Clock + AllocGlobal),
+    name: &str,
+    wanted: &[u8],
+) {
     let mut out = Vec::new(rt.alloc());
     if let Some(fault) = fault_of(rt, name, &mut out) {
         add_fault(rt, &fault, &mut out);
@@ -37,7 +42,7 @@ fn expect_missing(rt: &(impl Abort + Files<File = File> + AllocGlobal), name: &s
 }
 
 /// Expects that there is nothing of a name.
-fn expect_nothing(rt: &(impl Abort + Files<File = File>), name: &str) {
+pub fn expect_nothing(rt: &(impl Abort + Files<File = File>), name: &str) {
     hold(rt, fs::symlink_metadata(rt, name).is_err());
 }
 
@@ -48,7 +53,7 @@ const KEPT: &[u8] = b"kept\n";
 const NOT_A_STORE: &[u8] = b"apd: not a store\n";
 
 /// Expects that the file of a name is kept, byte for byte.
-fn expect_kept(rt: &(impl Abort + Files<File = File> + AllocGlobal), name: &str) {
+fn expect_kept(rt: &(impl Abort + Files<File = File> + Clock + AllocGlobal), name: &str) {
     let bytes = read(rt, name);
     expect_missing(rt, name, KEPT);
     expect_file(rt, name, bytes.as_slice());

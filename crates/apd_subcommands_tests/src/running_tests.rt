@@ -13,6 +13,7 @@ use std::io;
 use std::net::{Ipv4Addr, UdpSocket};
 use std::process::{Abort, ExitCode};
 use std::rt::Files;
+use std::time::Clock;
 
 const CONF: &str = "interface=wlan0\nbssid=02:00:00:00:00:01\nssid=net\n";
 
@@ -252,7 +253,7 @@ fn expect_fault<R: Abort + Host>(rt: &R, (store, port, conf): (&str, &str, &str)
 }
 
 /// Makes the file of a name a new store.
-fn make_store(rt: &(impl Abort + Files<File = File> + AllocGlobal), name: &str) {
+fn make_store(rt: &(impl Abort + Files<File = File> + Clock + AllocGlobal), name: &str) {
     let disk = FileDisk::create(rt, name).expect(rt, "a file that can be made");
     let is_made = format(rt.alloc(), disk).is_ok();
     hold(rt, is_made);

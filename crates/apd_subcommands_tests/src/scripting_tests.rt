@@ -10,6 +10,7 @@ use std::fs::{self, File};
 use std::io::{self, BufRead, BufReader, Read, Write};
 use std::process::Abort;
 use std::rt::Files;
+use std::time::Clock;
 
 fn new_confs(rt: &impl Abort, alloc: Global) -> Confs {
     let conf = Conf::built_in(alloc).expect(rt, "memory");
@@ -32,7 +33,7 @@ pub fn format_fault_of(alloc: Global, disk: FileDisk, out: &mut Vec<u8>) -> Opti
 }
 
 /// Makes the file of a name a new store.
-pub fn make_store(rt: &(impl Abort + Files<File = File> + AllocGlobal), name: &str) {
+pub fn make_store(rt: &(impl Abort + Files<File = File> + Clock + AllocGlobal), name: &str) {
     remove_any(rt, name);
     let disk = open(rt, name, Access::Make);
     let mut out = Vec::new(rt.alloc());
@@ -40,7 +41,10 @@ pub fn make_store(rt: &(impl Abort + Files<File = File> + AllocGlobal), name: &s
 }
 
 /// Makes the file of a name a store of version 1, and gives its bytes.
-pub fn make_old_store(rt: &(impl Abort + Files<File = File> + AllocGlobal), name: &str) -> Vec<u8> {
+pub fn make_old_store(
+    rt: &(impl Abort + Files<File = File> + Clock + AllocGlobal),
+    name: &str,
+) -> Vec<u8> {
     make_store(rt, name);
     put_over(rt, name, 7, b"1");
     read(rt, name)
@@ -55,7 +59,7 @@ pub fn put(bytes: &mut [u8], place: usize, others: &[u8]) {
 
 /// Puts these bytes over others of the file of a name, from a place on.
 pub fn put_over(
-    rt: &(impl Abort + Files<File = File> + AllocGlobal),
+    rt: &(impl Abort + Files<File = File> + Clock + AllocGlobal),
     name: &str,
     place: usize,
     others: &[u8],
@@ -84,7 +88,7 @@ pub fn script_fault_of<D: Disk + Drop, I: BufRead + Drop, W: Write>(
 
 /// What ends a script on the store of a file, if anything does.
 fn fault_of(
-    rt: &(impl Abort + Files<File = File> + AllocGlobal),
+    rt: &(impl Abort + Files<File = File> + Clock + AllocGlobal),
     name: &str,
     script: &[u8],
     out: &mut Vec<u8>,
@@ -107,7 +111,7 @@ pub fn add_fault(rt: &(impl Abort + AllocGlobal), fault: &CommandFault, out: &mu
 
 /// What a script on the store of a file prints, and then its fault as the program prints it.
 fn script_output(
-    rt: &(impl Abort + Files<File = File> + AllocGlobal),
+    rt: &(impl Abort + Files<File = File> + Clock + AllocGlobal),
     name: &str,
     script: &[u8],
 ) -> Vec<u8> {
@@ -120,7 +124,7 @@ fn script_output(
 
 /// Expects that a script on the store of a file prints this.
 pub fn expect_script(
-    rt: &(impl Abort + Files<File = File> + AllocGlobal),
+    rt: &(impl Abort + Files<File = File> + Clock + AllocGlobal),
     name: &str,
     script: &[u8],
     wanted: &[u8],
@@ -185,7 +189,7 @@ impl Write for Closed {
 
 /// Why a script on the store of a file is given up, where the device fails behind so many calls.
 fn give_up<I: BufRead + Drop, W: Write>(
-    rt: &(impl Abort + Files<File = File> + AllocGlobal),
+    rt: &(impl Abort + Files<File = File> + Clock + AllocGlobal),
     name: &str,
     calls: u64,
     reader: I,
@@ -198,7 +202,7 @@ fn give_up<I: BufRead + Drop, W: Write>(
 }
 
 /// Expects that the store of a file still has the station.
-fn expect_the_station(rt: &(impl Abort + Files<File = File> + AllocGlobal), name: &str) {
+fn expect_the_station(rt: &(impl Abort + Files<File = File> + Clock + AllocGlobal), name: &str) {
     expect_script(rt, name, b"cmd STA 02:00:00:00:00:aa\n", SHOWN);
 }
 
@@ -210,7 +214,7 @@ const ANOTHER: &[u8] =
     b"rx wlan0 b00000000200000000010200000000ab0200000000011000000001000000\nflush\n";
 
 // The writer fails, and then the reader, behind the script.
-fn give_up_streams(rt: &(impl Abort + Files<File = File> + AllocGlobal), name: &str) {
+fn give_up_streams(rt: &(impl Abort + Files<File = File> + Clock + AllocGlobal), name: &str) {
     let fault = give_up(rt, name, ENOUGH, ANOTHER, &mut Closed);
     expect(rt, fault, ScriptFault::Writer);
     expect_the_station(rt, name);
@@ -221,7 +225,11 @@ fn give_up_streams(rt: &(impl Abort + Files<File = File> + AllocGlobal), name: &
 }
 
 // The device fails behind so many calls.
-fn give_up_device(rt: &(impl Abort + Files<File = File> + AllocGlobal), name: &str, calls: u64) {
+fn give_up_device(
+    rt: &(impl Abort + Files<File = File> + Clock + AllocGlobal),
+    name: &str,
+    calls: u64,
+) {
     let fault = give_up(rt, name, calls, ANOTHER, &mut Vec::new(rt.alloc()));
     hold(rt, matches!(fault, ScriptFault::World(_)));
     expect_the_station(rt, name);
@@ -241,7 +249,7 @@ fn a_script_that_is_given_up_leaves_the_station(rt: HostRuntime) {
 
 // Expects this of a store whose byte at a place is another one.
 fn expect_broken(
-    rt: &(impl Abort + Files<File = File> + AllocGlobal),
+    rt: &(impl Abort + Files<File = File> + Clock + AllocGlobal),
     name: &str,
     place: usize,
     wanted: &[u8],
@@ -285,7 +293,7 @@ fn noise(rt: &impl Abort, alloc: Global) -> Vec<u8> {
 
 /// Makes the file of a name a new store, and runs a script on it.
 pub fn make_store_behind(
-    rt: &(impl Abort + Files<File = File> + AllocGlobal),
+    rt: &(impl Abort + Files<File = File> + Clock + AllocGlobal),
     name: &str,
     script: &[u8],
 ) {
@@ -295,7 +303,7 @@ pub fn make_store_behind(
 
 // Expects that noise is a bad line for a new store, and leaves these bytes.
 fn expect_noise_refused(
-    rt: &(impl Abort + Files<File = File> + AllocGlobal),
+    rt: &(impl Abort + Files<File = File> + Clock + AllocGlobal),
     name: &str,
     started: &[u8],
 ) {
@@ -317,7 +325,7 @@ fn noise_is_a_bad_line_and_leaves_the_store_as_the_start_did(rt: HostRuntime) {
 
 /// Expects that the program's own script over a store, with these configuration files, ends with a fault of this text.
 fn expect_fault(
-    rt: &(impl Abort + Input + Print + Files<File = File> + AllocGlobal),
+    rt: &(impl Abort + Input + Print + Files<File = File> + Clock + AllocGlobal),
     store: &str,
     names: &[&str],
     wanted: &str,
@@ -329,7 +337,7 @@ fn expect_fault(
 
 /// Expects that, and that the store stays as it was.
 fn expect_untouched(
-    rt: &(impl Abort + Input + Print + Files<File = File> + AllocGlobal),
+    rt: &(impl Abort + Input + Print + Files<File = File> + Clock + AllocGlobal),
     store: &str,
     names: &[&str],
     wanted: &str,

@@ -1,6 +1,7 @@
 use crate::checking_tests::check_output;
 use crate::expect::{expect, expect_file, hold, protect, read, remove, remove_any, write};
 use crate::formatting_tests::expect_text;
+use crate::missing_tests::expect_nothing;
 use crate::scripting_tests::{add_fault, expect_script, make_old_store, put_over};
 use apd_maintenance::UpgradeFault;
 use apd_store::StoreFault;
@@ -8,10 +9,11 @@ use apd_subcommands::{CommandFault, upgrade_and_print};
 use std::fs::{self, File};
 use std::process::Abort;
 use std::rt::Files;
+use std::time::Clock;
 
 /// Expects that `apd upgrade` prints this, with its fault as the program prints it.
 fn expect_upgrade(
-    rt: &(impl Abort + Files<File = File> + AllocGlobal),
+    rt: &(impl Abort + Files<File = File> + Clock + AllocGlobal),
     old: &str,
     new: &str,
     wanted: &[u8],
@@ -26,7 +28,7 @@ fn expect_upgrade(
 const COPIED: &[u8] = b"copied\n";
 
 /// Expects that a check finds no fault in the store of a file.
-fn expect_sound(rt: &(impl Abort + Files<File = File> + AllocGlobal), name: &str) {
+fn expect_sound(rt: &(impl Abort + Files<File = File> + Clock + AllocGlobal), name: &str) {
     let told = check_output(rt, name);
     hold(rt, !told.as_slice().starts_with(b"apd: "));
 }
@@ -76,7 +78,7 @@ fn a_copy_goes_on_with_its_station(rt: HostRuntime) {
     remove(&rt, new);
 }
 
-// OLD and NEW may be names of one file, which is then locked for reading alone.
+// OLD and NEW may not be names of one file.
 #[test]
 fn one_file_by_two_names(rt: HostRuntime) {
     let old = "one_store_of_an_upgrade_test";
@@ -86,13 +88,6 @@ fn one_file_by_two_names(rt: HostRuntime) {
     expect_upgrade(&rt, old, new, want);
     expect_file(&rt, old, bytes.as_slice());
     remove(&rt, old);
-}
-
-/// Expects that the file of a name has the length of a store, and zeros alone.
-fn expect_zeros(rt: &(impl Abort + Files<File = File> + AllocGlobal), name: &str) {
-    let zeros = read(rt, name);
-    expect(rt, zeros.len(), 2_097_216);
-    hold(rt, zeros.iter().all(|byte| *byte == 0));
 }
 
 const NOT_A_STORE: &[u8] = b"apd: not a store\n";
@@ -106,11 +101,11 @@ fn refusals_of_an_upgrade(rt: HostRuntime) {
     // A missing OLD makes no NEW.
     let want = b"apd: cannot read no_store_of_an_upgrade_test\n";
     expect_upgrade(&rt, none, new, want);
-    hold(&rt, fs::metadata(&rt, new).is_err());
-    // A short OLD is no store, of whatever version; the NEW that was made is of zeros.
+    expect_nothing(&rt, new);
+    // A short OLD is no store, of whatever version; the NEW that was made is removed.
     write(&rt, old, b"RAPSTOR2");
     expect_upgrade(&rt, old, new, NOT_A_STORE);
-    expect_zeros(&rt, new);
+    expect_nothing(&rt, new);
     // A NEW of another length is left as it was.
     make_old_store(&rt, old);
     write(&rt, new, b"short");

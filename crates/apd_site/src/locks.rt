@@ -1,19 +1,11 @@
 //! Which process holds the lock of a file (flock(2)), as `/proc/locks` tells.
+use crate::opening::Access;
 use std::fs::{self, File, Metadata};
 use std::os::unix::fs::MetadataExt;
 use std::rt::Files;
 
 /// Where Linux tells the locks of files.
 const LOCKS: &str = "/proc/locks";
-
-/// What a lock shares a file with.
-#[derive(Clone, Copy, Debug, PartialEq, Eq)]
-pub enum Shares {
-    /// With nobody.
-    Nothing,
-    /// With others that share it.
-    Reading,
-}
 
 /// A process that holds a file's lock.
 #[derive(Debug, Drop)]
@@ -33,14 +25,15 @@ fn place_of<R: AllocGlobal>(rt: &R, metadata: &Metadata) -> Option<String> {
     format!(in rt.alloc(); "{major:02x}:{minor:02x}:{node}").ok()
 }
 
-// Whether a lock of this kind, as a line names it, keeps out one that shares so much.
-fn keeps_out(kind: &str, shares: Shares) -> bool {
-    kind == "WRITE" || shares == Shares::Nothing
+// Whether a lock of this kind, as a line names it, keeps out who wants this: who only reads shares a file with others that
+// do.
+fn keeps_out(kind: &str, access: Access) -> bool {
+    kind == "WRITE" || access != Access::Read
 }
 
-// The process of a line, where that is a lock of this file, and keeps out one that shares so much. A line is a number, the
-// kind of lock, whether it is advisory, READ or WRITE, the process, the file, and how far it reaches.
-fn process_in(line: &str, place: &str, shares: Shares) -> Option<u32> {
+// The process of a line, where that is a lock of this file, and keeps out who wants this. A line is a number, the kind of
+// lock, whether it is advisory, READ or WRITE, the process, the file, and how far it reaches.
+fn process_in(line: &str, place: &str, access: Access) -> Option<u32> {
     let mut words = line.split_ascii_whitespace();
     let _number = words.next()?;
     if words.next()? != "FLOCK" {
@@ -49,7 +42,7 @@ fn process_in(line: &str, place: &str, shares: Shares) -> Option<u32> {
     let _advisory = words.next()?;
     let kind = words.next()?;
     let process = words.next()?.parse::<u32>().ok()?;
-    if words.next()? == place && keeps_out(kind, shares) {
+    if words.next()? == place && keeps_out(kind, access) {
         Some(process)
     } else {
         None
@@ -63,16 +56,17 @@ fn name_of<R: Files + AllocGlobal>(rt: &R, process: u32) -> Option<String> {
     String::from_str(rt.alloc(), text.trim_end()).ok()
 }
 
-/// The process that holds the lock of a file, which keeps out one that shares so much; none where the system doesn't tell.
-pub fn holder_of<R: Files<File = File> + AllocGlobal>(
+/// The process that holds the lock of a file, which keeps out who wants this; none where there is no such lock any more, or
+/// the system doesn't tell.
+pub(crate) fn holder_of<R: Files<File = File> + AllocGlobal>(
     rt: &R,
     file: &Metadata,
-    shares: Shares,
+    access: Access,
 ) -> Option<Holder> {
     let place = place_of(rt, file)?;
     let locks = fs::read_to_string(rt, LOCKS).ok()?;
     for line in locks.lines() {
-        if let Some(process) = process_in(line, place.as_str(), shares) {
+        if let Some(process) = process_in(line, place.as_str(), access) {
             return Some(Holder {
                 process,
                 name: name_of(rt, process),
