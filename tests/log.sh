@@ -35,6 +35,7 @@ TIME = re.compile(r"\d{4}-\d\d-\d\dT\d\d:\d\d:\d\d\.\d{3}Z ")
 AUTHENTICATION, ASSOCIATION = ("b000", "000000000100 0000"), ("0000", "0000 3104 0a00 00036e6574 010482848b96")
 DISASSOCIATION, DATA = ("a000", "0000 0800"), ("0801", "0000")
 SERVES = f"[INFO  apd] serves commands on port {port}, wlan0 on port {port + 1}; stations recovered: "
+ENDED = "[INFO  apd] standard input ended: ends"
 FAULT = ("[ERROR apd] device fault: nothing more is made durable, and what would change the table is refused; "
          "end it, see to the disk, and start it again")
 
@@ -86,11 +87,14 @@ class Run:
     def wants(self, what, lines, status=0, key=None):
         """Ends the test where the log has other lines, or the status is another one. With a key lines are sorted by it:
         what two threads tell comes in any order."""
+        if self.process.stdin.closed:
+            at = next(at for at, line in enumerate(lines) if "] entries " in line)
+            lines = [*lines[:at], ENDED, *lines[at:]]
         found, lines = (sorted(them, key=key) if key else them for them in (self.lines(), lines))
         if found != lines or self.process.returncode != status:
             die(f"{what}: status {self.process.returncode}, and it says\n{chr(10).join(found)}\nwanted:\n"
                 + "\n".join(lines))
-        print(f"{what}: {lines[-2] if len(lines) > 1 else lines[-1]}")
+        print(f"{what}: {lines[-3] if len(lines) > 2 else lines[-1]}")
 
 
 def new_store(name="store"):
@@ -118,7 +122,7 @@ for line in found:
     import calendar
     if abs(calendar.timegm(at) - now) > 30:
         die(f"--log-time: {line} at {now}")
-if [TIME.sub("", line, count=1) for line in found] != [SERVES + "1", "[INFO  apd] entries 0"]:
+if [TIME.sub("", line, count=1) for line in found] != [SERVES + "1", ENDED, "[INFO  apd] entries 0"]:
     die(f"--log-time: {found}")
 print(f"--log-time: {found[-1]}")
 
@@ -291,7 +295,7 @@ run.wait_for("device fault")
 if not run.ask(b"STATUS", 0).startswith(b"state=ENABLED\n") or run.ask(b"DENY_ACL CLEAR", 0) != b"FAIL\n":
     die("a device fault: it doesn't go on")
 run.end()
-run.wants("a device fault", [SERVES + "0", FAULT, "[INFO  apd] entries 2"])
+run.wants("a device fault", [SERVES + "0", FAULT, "[INFO  apd] entries 2", "apd: device fault"], 1)
 
 new_store()
 run = Run("--log-stations", "--end-at-fault", "conf", under=FAILING)
@@ -304,6 +308,16 @@ except subprocess.TimeoutExpired:
     run.process.kill()
     die("--end-at-fault: it goes on")
 run.wants("--end-at-fault", [SERVES + "0", FAULT, "[INFO  apd] entries 2", "apd: device fault"], 1)
+
+# Where a thread can't be had, one for what is watched and one for each worker, it never says that it serves.
+new_store()
+for made in range(1, 6):
+    words = ["strace", "-f", "-qq", "-o", "/dev/null", "-e", f"inject=clone3,clone:error=EAGAIN:when={made}", program,
+             "run", "--store", "store", "--port", str(port), "conf"]
+    done = subprocess.run(words, stdin=subprocess.DEVNULL, capture_output=True, timeout=20, text=True)
+    if done.returncode != 1 or done.stderr.splitlines()[0] != "apd: no thread":
+        die(f"thread {made} can't be had: {done}")
+print(f"no thread: {done.stderr.splitlines()[0]}")
 
 # Without a fault it ends with its input, whatever that is.
 for given in subprocess.DEVNULL, open("conf"):

@@ -1,21 +1,26 @@
 -- A world over the file of a store, whatever the file held, and whatever calls were made of it.
 use Rattle.apd_base.specs.State.{State}
+use Rattle.apd_base.specs.declared.moment.Moment.{Moment}
 use Rattle.apd_conf.specs.declared.conf.Conf.{Conf}
-use Rattle.std.specs.Prelude.{◌≡◌, ℕ, List, ◌++◌, length}
+use Rattle.apd_core.specs.Heard.{AreHeardAt}
+use Rattle.std.specs.Prelude.{◌≡◌, ◌≤◌, ℕ, List, ◌++◌, length, map}
 use Rattle.apd_disk.specs.FileCalls.{FileLeaves, FileLeftSince, file_reads}
 use Rattle.apd_disk.specs.FileModel.{file_model}
 use Rattle.apd_disk.specs.FileMore.{HasMore}
 use Rattle.apd_disk.specs.SystemFile.{FileDisk}
 use Rattle.apd_disk.specs.declared.record.FileRecord.{FileRecord}
 use Rattle.apd_radio.specs.Model.{RadioModel}
+use Rattle.apd_slot.specs.Slots.{bssid_of}
 use Rattle.apd_store.specs.Image.{Shows}
 use Rattle.apd_store.specs.Recovery.{IsRecovered}
+use Rattle.apd_world.specs.Following.{AreFollowing}
 use Rattle.apd_world.specs.History.{History, Keeps, blank}
 use Rattle.apd_world.specs.Outside.{device_of}
 use Rattle.apd_world.specs.Proper.{IsProper}
+use Rattle.apd_world.specs.Resumed.{AreResumed}
 use Rattle.apd_world.specs.SafelyMade.{LeadsSince}
 use Rattle.apd_world.specs.StandsFor.{BeginsAt, LeadsTo}
-use Rattle.apd_world.specs.WorldParts.{durable_of}
+use Rattle.apd_world.specs.WorldParts.{durable_of, slots_of}
 use Rattle.apd_world.specs.declared.step.Step.{Step}
 use Rattle.apd_world.specs.declared.step.Told.{Told}
 use Rattle.apd_world.specs.declared.world.World.{World}
@@ -40,6 +45,15 @@ pub record IsBegunOver {R : Type 0} (known : FileRecord) (confs : List Conf) (wo
   pub shows : Shows (file_reads known.held known.calls) table
   pub begins : BeginsAt confs table world
   pub proper : IsProper file_model (durable_of world)
+
+-- Whatever the file held: each station was heard last at this moment, and each slot has resumed by the table, and follows
+-- it. Where there is a radio for each configuration, there is a slot for each, in their order.
+pub record IsBegunAt {R : Type 0} (radio : RadioModel R) (m : Moment) (confs : List Conf) (radios : List R)
+    (world : World FileDisk R) : Type 0 where
+  pub heard : AreHeardAt m (durable_of world).core.settled (durable_of world).core.heard
+  pub slots : length confs ≤ length radios → map bssid_of (slots_of world) ≡ map (λ conf. conf.bssid) confs
+  pub resumed : AreResumed radio (durable_of world).core.settled (slots_of world)
+  pub following : AreFollowing world
 
 -- the history that begins there
 abbrev pub first_history : {R : Type 0} {known : FileRecord} {confs : List Conf} {world : World FileDisk R}

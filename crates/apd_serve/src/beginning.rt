@@ -2,7 +2,7 @@
 ghost use Rattle.std.specs.Prelude.{IfOk};
 ghost use Rattle.apd_disk.specs.FileModel.{file_model};
 ghost use Rattle.apd_disk.specs.declared.record.FileRecord.{FileRecord as Known};
-ghost use Rattle.apd_serve.specs.FileWorld.{IsBegunOver, IsRecoveredFrom, file_of};
+ghost use Rattle.apd_serve.specs.FileWorld.{IsBegunAt, IsBegunOver, IsRecoveredFrom, file_of};
 
 use crate::running::RunFault;
 use apd_base::Moment;
@@ -53,8 +53,9 @@ pub fn open_store(
 }
 
 /// The world of a store that was opened, with these radios, one for each configuration, in their order. Each station of
-/// the table was heard at the moment 0. Whatever was known of the file: where it has answered as one that held that, the
-/// world stands for the history that begins at the state that its bytes show, and is proper.
+/// the table was heard at the moment 0, and each slot has resumed by the table. Whatever was known of the file: where it
+/// has answered as one that held that, the world stands for the history that begins at the state that its bytes show, and
+/// is proper.
 ///
 /// Errors: `World` with `Slot` where a slot doesn't resume; `NoMemory`.
 pub fn begin_world<R: Radio>(
@@ -63,8 +64,9 @@ pub fn begin_world<R: Radio>(
     confs: Confs,
     radios: Vec<R>,
 ) -> Result<World<FileDisk, R>, RunFault>
-    ensures { IfOk result (λ world. (known : Known) → IsRecoveredFrom known opened
+    ensures over { IfOk result (λ world. (known : Known) → IsRecoveredFrom known opened
         → file_model.honest (file_of world) → IsBegunOver known confs world) }
+    ensures at { IfOk result (IsBegunAt R.model (record { 0 = 0 }) confs radios.items) }
 {
     let OpenStore { store, table } = opened;
     let slots = slots_for(alloc, &confs, radios)?;

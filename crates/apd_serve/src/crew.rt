@@ -15,6 +15,9 @@ pub(crate) trait Job<X> {
 
 /// What the threads share.
 pub(crate) trait Stops {
+    /// Logs that each job has its thread.
+    fn tell_started(&self);
+
     /// Tells those that work to stop.
     fn stop(&self);
 }
@@ -38,10 +41,11 @@ fn start_all<'s, E, X: Sync + 's, J: Job<X> + Send + Drop + 's>(
 }
 
 /// Does each job in a thread of its own until the input ends or fails, then stops them all, and gives the jobs back
-/// once each thread has ended. It takes its memory before it starts a thread.
+/// once each thread has ended. It takes its memory before it starts a thread. Once each has one, that is told, and only
+/// then the input is read.
 ///
-/// Errors: `Thread` where one can't be made: those that run are stopped, and have ended; `NoMemory`, and none was
-/// started.
+/// Errors: `Thread` where one can't be made: those that run are stopped, and have ended, and nothing was told;
+/// `NoMemory`, and none was started.
 pub(crate) fn work_until_end<
     W: Wait + Threads + Clock,
     X: Stops + Sync,
@@ -53,6 +57,7 @@ pub(crate) fn work_until_end<
     let all = thread::scope(thread::scope_env(), rt, |scope| {
         let started = start_all(scope, shared, jobs, &mut threads);
         if started {
+            shared.tell_started();
             read_to_its_end(rt, reader);
         }
         shared.stop();

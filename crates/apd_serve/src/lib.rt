@@ -10,6 +10,7 @@ mod handing_out;
 pub mod laws;
 mod running;
 mod serving;
+mod started;
 mod telling_port;
 mod worker;
 

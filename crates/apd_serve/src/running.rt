@@ -6,7 +6,8 @@ use crate::beginning::{OpenStore, begin_world, open_store};
 use crate::clock::SystemClock;
 use crate::crew::run_beside;
 use crate::fault::ServeFault;
-use crate::serving::{serve_started, start};
+use crate::serving::serve_started;
+use crate::started::{StartedWorld, start};
 use crate::telling_port::TellingPort;
 use apd_conf::Confs;
 use apd_control_port::ControlPort;
@@ -15,11 +16,11 @@ use apd_disk::{Disk, FileDisk, FileRecord};
 use apd_radio::{Radio, SocketFault};
 use apd_site::{
     Alarm, Driven, Edits, Elsewhere, Ending, OpenFault, RecordingFile, Site, SiteFault, StoreWatch,
-    UntilFault, elsewhere_of, open_radios, open_recordings_of, open_watch, site_radios,
-    tell_entries, tell_lists, tell_start, watch,
+    TellingInput, UntilFault, elsewhere_of, open_radios, open_recordings_of, open_watch,
+    site_radios, tell_entries, tell_lists, tell_unserved, watch, words_of_served,
 };
 use apd_store::StoreFault;
-use apd_world::{World, WorldFault};
+use apd_world::WorldFault;
 use log::Log;
 use std::alloc::{AllocError, Global};
 use std::fs::File;
@@ -179,22 +180,30 @@ struct Watched<'a> {
     elsewhere: Elsewhere,
 }
 
-// The world of a store that was opened, started, with any radios. What doesn't count is told before, and what is served
-// behind it.
+// The world of a store that was opened, started, with any radios, and what is served, in words. What doesn't count is told
+// before, and what isn't served behind it.
 fn start_world<W: AllocGlobal + Log, R: Radio>(
     rt: &W,
     store: OpenStore,
     confs: Confs,
     port: u16,
     radios: Vec<R>,
-) -> Result<World<FileDisk, R>, RunFault> {
+) -> Result<(StartedWorld<FileDisk, R>, String), RunFault> {
     tell_lists(rt, &confs, store.table());
     let recovered = store.table().rows();
     let world = begin_world(rt.alloc(), store, confs, radios)?;
     match start(world) {
-        Ok(world) => {
-            tell_start(rt, port, world.confs(), world.table(), recovered);
-            Ok(world)
+        Ok(started) => {
+            let world = started.world();
+            let (confs, table) = (world.confs(), world.table());
+            tell_unserved(rt, confs, table);
+            match words_of_served(rt.alloc(), port, confs, table, recovered) {
+                Ok(served) => Ok((started, served)),
+                Err(error) => {
+                    drop(started);
+                    Err(error.into())
+                }
+            }
         }
         Err(fault) => Err(RunFault::Serve(fault)),
     }
@@ -209,8 +218,9 @@ fn serve_and_end<
     B: Read,
 >(
     rt: &W,
-    world: World<D, R>,
+    world: StartedWorld<D, R>,
     commands: P,
+    served: &str,
     ending: &Ending,
     alarm: &Alarm,
     reader: &mut B,
@@ -228,6 +238,7 @@ where
         &clock,
         &NoGate,
         alarm,
+        Some(served),
         reader,
     );
     ending.end(rt);
@@ -244,8 +255,9 @@ fn serve_beside_watch<
 >(
     rt: &W,
     watched: &mut Watched<'_>,
-    world: World<D, R>,
+    world: StartedWorld<D, R>,
     commands: P,
+    served: &str,
     alarm: &Alarm,
     reader: &mut B,
 ) -> Result<u64, ServeFault>
@@ -259,7 +271,7 @@ where
     let answer = run_beside(
         rt,
         || watch(rt, store, elsewhere, &ending),
-        || serve_and_end(rt, world, commands, &ending, alarm, reader),
+        || { serve_and_end(rt, world, commands, served, &ending, alarm, reader) },
     );
     answer.unwrap_or(Err(ServeFault::Thread))
 }
@@ -286,8 +298,9 @@ where
     W::Stream: Send + Sync,
     W::Listener: Send + Sync,
 {
-    let world = start_world(rt, store, confs, port, radios)?;
-    serve_beside_watch(rt, watched, world, commands, alarm, reader).map_err(RunFault::Serve)
+    let (world, served) = start_world(rt, store, confs, port, radios)?;
+    let answer = serve_beside_watch(rt, watched, world, commands, served.as_str(), alarm, reader);
+    answer.map_err(RunFault::Serve)
 }
 
 // Makes the radios of a site, and serves it by them.
@@ -430,10 +443,10 @@ where
 }
 
 /// Serves an access point of these configurations, over the store, the ports and the recordings of a site, until the
-/// input ends, and answers how many requests became entries. That is logged too, and so is what is served, once it was
-/// started; at the level warn an interface that isn't, and a list file that doesn't count; and at the level error, when
-/// it comes, that the store's device or a driver failed, that a recording ended, or that the store's file lost its name
-/// or its length.
+/// input ends, and answers how many requests became entries. That is logged too, and so is what is served, once each
+/// thread is there, and that the input ended; at the level warn an interface that isn't served, and a list file that
+/// doesn't count; and at the level error, when it comes, that the store's device or a driver failed, that a recording
+/// ended, or that the store's file lost its name or its length.
 ///
 /// It opens the store by `open_store`, with a record that no clause names, and begins the world by `begin_world`: what
 /// these say of each record is so of the one that fits the file.
@@ -441,8 +454,8 @@ where
 /// Errors, looked for in this order: the system can't wait for the input, where a fault is to end it; the store's file
 /// can't be opened, or the store is refused; a recording can't be made; a port can't be had; a recording can't be
 /// emptied; a slot doesn't resume; `Serve`. Before `Serve` nothing is sent, and the store is as it was; with it the start
-/// may have been committed and handed out. Before the ports are had no file is emptied. `NoMemory` comes at any place. Where
-/// a fault of the store's device is to end the run, it is told by `Serve`, once the count of entries was logged.
+/// may have been committed and handed out. Before the ports are had no file is emptied. `NoMemory` comes at any place. That
+/// the store's device failed while it served is told by `Serve`, once the count of entries was logged.
 pub fn run<
     W: Files<File = File> + Net + Wait + Threads + Clock + AllocGlobal + Log + Sync,
     B: Read + Drop,
@@ -453,12 +466,13 @@ where
     W::Listener: Send + Sync,
 {
     let alarm = Alarm::new();
+    let reader = TellingInput::new(rt, reader);
     let entries = match site.ends_at_fault {
         None => run_on(rt, confs, site, &alarm, reader),
         Some(descriptor) => run_until_fault(rt, confs, site, &alarm, reader, descriptor),
     }?;
     tell_entries(rt, entries);
-    if site.ends_at_fault.is_some() && alarm.has_rung() {
+    if alarm.has_rung() {
         return Err(RunFault::Serve(ServeFault::Store(StoreFault::Device)));
     }
     Ok(entries)

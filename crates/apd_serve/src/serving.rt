@@ -4,7 +4,8 @@ ghost use Rattle.apd_desk.specs.Counted.{entries_of_seats};
 ghost use Rattle.apd_serve.specs.Entries.{entries_of_all, entries_of_seat};
 
 use crate::crew::work_until_end;
-use crate::fault::{ServeFault, of_start};
+use crate::fault::ServeFault;
+use crate::started::{StartedWorld, start};
 use crate::worker::{Environment, Worker};
 use apd_core::Core;
 use apd_desk::{Clock, Gate, Port, SEATS, Seat, Shared};
@@ -213,6 +214,7 @@ fn work_and_close<
     clock: &C,
     gate: &G,
     alarm: &Alarm,
+    served: Option<&str>,
     reader: &mut B,
 ) -> Result<u64, ServeFault>
 where
@@ -227,6 +229,7 @@ where
         clock,
         gate,
         alarm,
+        served,
     };
     let worked = work(&environment, workers, reader);
     drop(environment);
@@ -253,11 +256,12 @@ fn run_crew<
     rt: &W,
     alloc: Global,
     blank: Blank,
-    world: World<D, R>,
+    world: StartedWorld<D, R>,
     port: P,
     clock: &C,
     gate: &G,
     alarm: &Alarm,
+    served: Option<&str>,
     reader: &mut B,
 ) -> Result<u64, ServeFault>
 where
@@ -267,10 +271,12 @@ where
     requires parts { blank.parts ≡ L.parts }
     requires all { blank.parts ≡ SEATS }
 {
-    let (flusher, core, slots) = world.into_parts();
+    let (flusher, core, slots) = world.into_world().into_parts();
     let shared = Shared::<L>::new(core, blank);
     match crew(rt, alloc, &shared, Committer::new(flusher), slots, port) {
-        Ok(workers) => work_and_close(rt, alloc, shared, workers, clock, gate, alarm, reader),
+        Ok(workers) => work_and_close(
+            rt, alloc, shared, workers, clock, gate, alarm, served, reader,
+        ),
         Err(fault) => {
             drop(shared);
             Err(fault)
@@ -278,25 +284,8 @@ where
     }
 }
 
-/// A world, started: each interface is configured, which is committed and handed out. Then nothing waits in it that would
-/// be lost where it is taken apart.
-pub(crate) fn start<D: Disk + Drop, R: Radio>(
-    world: World<D, R>,
-) -> Result<World<D, R>, ServeFault> {
-    let mut world = world;
-    match world.start() {
-        Ok(told) => {
-            drop(told);
-            Ok(world)
-        }
-        Err(fault) => {
-            drop(world);
-            Err(of_start(fault))
-        }
-    }
-}
-
-/// As `serve`, of a world that is started. The alarm rings where the device fails.
+/// As `serve`, of a world that is started. The alarm rings where the device fails. What is served is logged in these
+/// words, if there are any, once each thread is there.
 pub(crate) fn serve_started<
     W: Wait + Threads + time::Clock + Log + Net + Sync,
     D: Disk + Drop + Send,
@@ -308,11 +297,12 @@ pub(crate) fn serve_started<
 >(
     rt: &W,
     alloc: Global,
-    world: World<D, R>,
+    world: StartedWorld<D, R>,
     port: P,
     clock: &C,
     gate: &G,
     alarm: &Alarm,
+    served: Option<&str>,
     reader: &mut B,
 ) -> Result<u64, ServeFault>
 where
@@ -321,7 +311,7 @@ where
 {
     let blank = Blank::new(u64::from(SEATS));
     run_crew::<Brand, W, D, R, P, C, G, B>(
-        rt, alloc, blank, world, port, clock, gate, alarm, reader,
+        rt, alloc, blank, world, port, clock, gate, alarm, served, reader,
     )
 }
 
@@ -387,5 +377,15 @@ where
 {
     let mut reader = reader;
     let world = start(world)?;
-    serve_started(rt, alloc, world, port, &clock, gate, alarm, &mut reader)
+    serve_started(
+        rt,
+        alloc,
+        world,
+        port,
+        &clock,
+        gate,
+        alarm,
+        None,
+        &mut reader,
+    )
 }

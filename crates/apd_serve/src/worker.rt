@@ -13,7 +13,7 @@ use apd_desk::{
 use apd_disk::Disk;
 use apd_flusher::{Committer, Phase};
 use apd_radio::Radio;
-use apd_site::{Alarm, tell_device_fault, tell_worn_out};
+use apd_site::{Alarm, tell_device_fault, tell_served, tell_worn_out};
 use apd_slot::Slot;
 use log::Log;
 use std::alloc::Global;
@@ -31,9 +31,17 @@ pub(crate) struct Environment<'a, L: Ledger, W, C, G> {
     pub(crate) clock: &'a C,
     pub(crate) gate: &'a G,
     pub(crate) alarm: &'a Alarm,
+    // What is served, in words, where that is to be told.
+    pub(crate) served: Option<&'a str>,
 }
 
-impl<L: Ledger, W: Wait, C, G> Stops for Environment<'_, L, W, C, G> {
+impl<L: Ledger, W: Wait + Log, C, G> Stops for Environment<'_, L, W, C, G> {
+    fn tell_started(&self) {
+        if let Some(words) = self.served {
+            tell_served(self.rt, words);
+        }
+    }
+
     fn stop(&self) {
         self.shared.stop(self.rt);
     }
@@ -73,6 +81,7 @@ impl<
             clock,
             gate,
             alarm,
+            ..
         } = environment;
         match self {
             Worker::Committing(committer) => {

@@ -15,6 +15,9 @@ use std::sync::Wait;
 use std::thread::Threads;
 use std::time::{Clock, Duration};
 
+/// What is told where the input ends.
+pub(crate) const ENDED: &str = "[INFO  apd] standard input ended: ends\n";
+
 /// A runtime, and what is logged.
 #[derive(Drop)]
 pub(crate) struct Hearing<R: Wait> {
@@ -45,6 +48,20 @@ impl<R: Wait + Copy + Drop + Abort> Hearing<R> {
         let rt = self.rt;
         let text = self.heard();
         expect(&rt, text.as_str(), wanted);
+    }
+
+    /// Ends the test where anything else was logged beside that the input ended, which was once: other threads tell what
+    /// they tell before it or behind it.
+    pub(crate) fn expect_heard_to_the_end(self, wanted: &str) {
+        let rt = self.rt;
+        let text = self.heard();
+        let mut parts = text.as_str().splitn(2, ENDED);
+        let before = parts.next().expect(&rt, "a text");
+        let behind = parts.next().expect(&rt, "that the input ended");
+        let rest = wanted
+            .strip_prefix(before)
+            .expect(&rt, "what was told before");
+        expect(&rt, behind, rest);
     }
 
     /// Ends the test where a line was not logged, or more than once.

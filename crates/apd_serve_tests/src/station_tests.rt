@@ -50,7 +50,7 @@ where
         port.wrapping_add(1),
         port.wrapping_add(2)
     );
-    hearing.expect_heard(wanted.expect(&rt, "memory").as_str());
+    hearing.expect_heard_to_the_end(wanted.expect(&rt, "memory").as_str());
     remove_all(&rt, &[name]);
 }
 

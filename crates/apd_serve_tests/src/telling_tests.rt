@@ -1,7 +1,7 @@
 use crate::configurations::{alone, built_in, conf_of, confs_of, file_of};
 use crate::expect::expect;
 use crate::files::{new_store, remove_all};
-use crate::hearing::Hearing;
+use crate::hearing::{ENDED, Hearing};
 use crate::running_tests::{confs, run_at, runs_with};
 use crate::talk::{CONTROL, Datagram, Line, free_ports};
 use apd_conf::Confs;
@@ -34,7 +34,7 @@ fn the_start_and_the_entries_are_told(rt: HostRuntime) {
     let hearing = Hearing::new(rt, rt.alloc());
     let port = runs_with(&hearing, name, confs(&rt, 2), None, LINES, "1");
     let wanted = format!(in rt.alloc();
-        "[INFO  apd] serves commands on port {port}, wlan0 on port {}, wlan1 on port {}; stations recovered: 0\n[INFO  apd] entries 1\n",
+        "[INFO  apd] serves commands on port {port}, wlan0 on port {}, wlan1 on port {}; stations recovered: 0\n{ENDED}[INFO  apd] entries 1\n",
         port.wrapping_add(1),
         port.wrapping_add(2)
     );
@@ -65,7 +65,7 @@ fn a_ninth_bssid_of_a_store_is_told(rt: HostRuntime) {
     let hearing = Hearing::new(rt, alloc);
     let port = runs_with(&hearing, name, ninth, None, &[], "0");
     let wanted = format!(in alloc;
-        "[WARN  apd] i is not served: the store has as many other BSSIDs as it can have\n[INFO  apd] serves commands on port {port}; stations recovered: 0\n[INFO  apd] entries 0\n"
+        "[WARN  apd] i is not served: the store has as many other BSSIDs as it can have\n[INFO  apd] serves commands on port {port}; stations recovered: 0\n{ENDED}[INFO  apd] entries 0\n"
     );
     hearing.expect_heard(wanted.expect(&rt, "memory").as_str());
     remove_all(&rt, &[name]);
@@ -94,7 +94,7 @@ where
     let confs = confs_with_list(&rt, alloc, "list_of_a_telling_test");
     let port = runs_with(&hearing, name, confs, None, &[], "0");
     let wanted = format!(in alloc;
-        "{wanted}[INFO  apd] serves commands on port {port}, wlan0 on port {}; stations recovered: 0\n[INFO  apd] entries 0\n",
+        "{wanted}[INFO  apd] serves commands on port {port}, wlan0 on port {}; stations recovered: 0\n{ENDED}[INFO  apd] entries 0\n",
         port.wrapping_add(1)
     );
     hearing.expect_heard(wanted.expect(&rt, "memory").as_str());

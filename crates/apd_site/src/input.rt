@@ -24,7 +24,7 @@ pub fn read_to_its_end<B: Read>(clock: &impl Clock, reader: &mut B) {
     }
 }
 
-// Whether such a fault says that the input may give something later.
-fn is_none_yet(kind: ErrorKind) -> bool {
+/// Whether such a fault says that the input may give something later.
+pub(crate) fn is_none_yet(kind: ErrorKind) -> bool {
     kind == ErrorKind::Interrupted || kind == ErrorKind::WouldBlock
 }

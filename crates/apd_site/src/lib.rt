@@ -19,6 +19,7 @@ mod site;
 mod station_notes;
 mod store_watch;
 mod telling_file;
+mod telling_input;
 mod telling_radio;
 mod until_fault;
 
@@ -32,7 +33,8 @@ pub use identity::are_one_file;
 pub use input::read_to_its_end;
 pub use locks::Holder;
 pub use notices::{
-    tell_device_fault, tell_entries, tell_lists, tell_not_handed_out, tell_start, tell_worn_out,
+    tell_device_fault, tell_entries, tell_lists, tell_not_handed_out, tell_served, tell_unserved,
+    tell_worn_out, words_of_served,
 };
 pub use opening::{Access, OpenFault, file_or_fault, make_disk, open_disk};
 pub use radios::{Driven, Recorded, SiteRadio, elsewhere_of, open_radios, site_radios};
@@ -41,5 +43,6 @@ pub use site::{Site, SiteFault};
 pub use station_notes::StationNotes;
 pub use store_watch::{Ending, StoreWatch, watch};
 pub use telling_file::TellingFile;
+pub use telling_input::TellingInput;
 pub use telling_radio::TellingRadio;
 pub use until_fault::UntilFault;

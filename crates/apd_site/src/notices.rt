@@ -7,6 +7,7 @@ use apd_conf::{Conf, Confs};
 use apd_frame::Reason;
 use apd_table::Table;
 use log::{Log, error, info, warn};
+use std::alloc::{AllocError, Global};
 use std::fmt::{self, Display, Formatter};
 use std::io;
 
@@ -37,17 +38,36 @@ impl Display for Served<'_> {
     }
 }
 
-/// Logs what is served after a start, at the level info: the ports, the interfaces, and how many stations were
-/// recovered. Before it, at the level warn, each interface that isn't served, and why.
-pub fn tell_start<R: Log>(rt: &R, port: u16, confs: &Confs, table: &Table, recovered: usize) {
+/// Logs, at the level warn, each interface that isn't served after a start, and why.
+pub fn tell_unserved<R: Log>(rt: &R, confs: &Confs, table: &Table) {
     for conf in confs.list() {
         if table.policy(conf.bssid).is_none() {
             let interface = conf.interface.as_str();
             warn!(rt; target: "apd", "{interface} is not served: the store has as many other BSSIDs as it can have");
         }
     }
+}
+
+/// What is served after a start, in words: the ports, the interfaces, and how many stations were recovered.
+pub fn words_of_served(
+    alloc: Global,
+    port: u16,
+    confs: &Confs,
+    table: &Table,
+    recovered: usize,
+) -> Result<String, AllocError> {
     let served = Served { port, confs, table };
-    info!(rt; target: "apd", "serves {served}; stations recovered: {recovered}");
+    format!(in alloc; "{served}; stations recovered: {recovered}")
+}
+
+/// Logs what is served, at the level info.
+pub fn tell_served<R: Log>(rt: &R, words: &str) {
+    info!(rt; target: "apd", "serves {words}");
+}
+
+/// Logs that standard input ended, at the level info.
+pub(crate) fn tell_input_ended<R: Log>(rt: &R) {
+    info!(rt; target: "apd", "standard input ended: ends");
 }
 
 /// Logs, at the level warn, each list file that does not count, since the store has the lists of its BSSID already: the
