@@ -7,3 +7,4 @@ mod Noting
 mod Replies
 pub mod Serving
 mod TendLemmas
+mod TickLemmas

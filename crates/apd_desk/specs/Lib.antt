@@ -9,5 +9,6 @@ pub mod RadioNotes
 pub mod Replying
 pub mod Serving
 pub mod Tending
+pub mod Ticking
 pub mod TicketOwner
 pub mod SeatProgress

@@ -19,7 +19,7 @@ use std::alloc::AllocError;
 use std::os::fd::RawFd;
 use std::sync::Wait;
 use std::sync::ledger::Ledger;
-use std::time::Clock;
+use std::time::{Clock, Duration};
 
 /// A shared core, for one who has a seat.
 #[derive(Drop)]
@@ -83,6 +83,9 @@ pub(crate) trait Serves: Asks {
 
     /// Waits for the pause before something is tried again.
     fn pause(&self, seen: Look);
+
+    /// Waits for a stop since a look, for this time at most.
+    fn rest(&self, time: Duration, seen: Look);
 }
 
 impl<L: Ledger, W: Wait + Clock> Serves for Asked<'_, L, W> {
@@ -104,5 +107,9 @@ impl<L: Ledger, W: Wait + Clock> Serves for Asked<'_, L, W> {
 
     fn pause(&self, seen: Look) {
         self.shared.pause(self.rt, News::Settled, seen);
+    }
+
+    fn rest(&self, time: Duration, seen: Look) {
+        self.shared.wait_within(self.rt, News::Stop, seen, time);
     }
 }

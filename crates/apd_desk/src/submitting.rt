@@ -1,5 +1,7 @@
 //! How a worker submits.
+ghost use Rattle.std.specs.Prelude.{IsTrue};
 ghost use Rattle.apd_desk.specs.SeatProgress.{IsLater};
+ghost use Rattle.apd_desk.specs.Ticking.{HasEntered};
 
 use crate::gate::{Gate, Place};
 use crate::seat::Seat;
@@ -11,7 +13,9 @@ use std::sync::Wait;
 use std::sync::ledger::Ledger;
 
 /// Passes the gate where a request became an entry. Tells whether it did.
-pub(crate) fn pass_entry<G: Gate>(answer: Result<Accepted<'_>, AllocError>, gate: &G) -> bool {
+pub(crate) fn pass_entry<G: Gate>(answer: Result<Accepted<'_>, AllocError>, gate: &G) -> bool
+    ensures { IsTrue result → HasEntered answer.entry }
+{
     match answer {
         Ok(Accepted::Entry(ticket)) => {
             gate.pass(Place::Accepted(ticket.number()));

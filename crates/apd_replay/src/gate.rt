@@ -71,7 +71,7 @@ impl<W: Wait> Clock for NotedClock<'_, W> {
 }
 
 /// The clock of the worker of ticks: so often, after some entries each, much time has passed when it is asked, and the
-/// worker submits a tick.
+/// worker makes a turn.
 #[derive(Drop)]
 pub(crate) struct TickClock<'a, W: Wait> {
     pub(crate) rt: &'a W,
@@ -97,7 +97,7 @@ impl<W: Wait> TickClock<'_, W> {
         }
     }
 
-    // Lets time pass, and notes that a tick comes.
+    // Lets time pass, and notes that a turn comes.
     fn go_on(&self) {
         if !self.stage.begin_tick() {
             return;

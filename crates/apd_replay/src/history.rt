@@ -98,6 +98,8 @@ struct Given {
 #[derive(Drop)]
 struct Reading {
     worker: usize,
+    // Whether what was given is a turn of ticks, of which each may become an entry.
+    is_turn: bool,
     last: Option<Given>,
     given: Vec<Given>,
     calls: Vec<Call>,
@@ -105,9 +107,10 @@ struct Reading {
 }
 
 impl Reading {
-    fn new(alloc: Global, worker: usize) -> Reading {
+    fn new(alloc: Global, worker: usize, is_turn: bool) -> Reading {
         Reading {
             worker,
+            is_turn,
             last: None,
             given: Vec::new(alloc),
             calls: Vec::new(alloc),
@@ -141,14 +144,20 @@ impl Reading {
     }
 
     fn accept(&mut self, number: u64) -> Result<(), Fault> {
-        match &mut self.last {
-            None => Err(Fault::NotGiven(self.worker)),
-            Some(given) if given.number.is_some() => Err(Fault::AcceptedTwice(self.worker)),
-            Some(given) => {
-                given.number = Some(number);
-                Ok(())
+        let Some(given) = self.last else {
+            return Err(Fault::NotGiven(self.worker));
+        };
+        if given.number.is_some() {
+            if !self.is_turn {
+                return Err(Fault::AcceptedTwice(self.worker));
             }
+            self.keep()?;
         }
+        self.last = Some(Given {
+            number: Some(number),
+            ..given
+        });
+        Ok(())
     }
 
     fn read(&mut self, note: Note) -> Result<(), Fault> {
@@ -166,8 +175,14 @@ impl Reading {
 }
 
 // Reads the notes of a worker; of so many of them the calls are counted.
-fn read(alloc: Global, worker: usize, notes: &[Note], mark: usize) -> Result<Reading, Fault> {
-    let mut reading = Reading::new(alloc, worker);
+fn read(
+    alloc: Global,
+    worker: usize,
+    is_turn: bool,
+    notes: &[Note],
+    mark: usize,
+) -> Result<Reading, Fault> {
+    let mut reading = Reading::new(alloc, worker, is_turn);
     for (place, note) in notes.iter().enumerate() {
         if place == mark {
             reading.at_mark = reading.calls.len();
@@ -393,7 +408,7 @@ fn read_radio(
     mark: usize,
 ) -> Result<Reading, Fault> {
     let notes = lane.log.read(rt, alloc)?;
-    read(alloc, place, notes.as_slice(), mark)
+    read(alloc, place, false, notes.as_slice(), mark)
 }
 
 // Reads the notes of the radios.
@@ -420,7 +435,8 @@ impl History {
         giver: Giver,
         notes: &[Note],
     ) -> Result<(), Fault> {
-        let reading = read(alloc, plan.radios.len(), notes, 0)?;
+        let is_turn = matches!(giver, Giver::Clock);
+        let reading = read(alloc, plan.radios.len(), is_turn, notes, 0)?;
         check_rise(&reading)?;
         self.add_entries(&reading, giver)
     }

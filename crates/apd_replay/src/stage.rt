@@ -98,7 +98,7 @@ impl Stage {
         }
     }
 
-    /// Begins a tick, once no frame that needs calm is under way. Tells whether none is.
+    /// Begins a turn of ticks, once no frame that needs calm is under way. Tells whether none is.
     pub(crate) fn begin_tick(&self) -> bool {
         self.ticking.store(true, Ordering::SeqCst);
         for _look in 0..LOOKS {
@@ -111,7 +111,7 @@ impl Stage {
         false
     }
 
-    /// The tick was submitted.
+    /// The turn ended.
     pub(crate) fn end_tick(&self) {
         self.ticking.store(false, Ordering::SeqCst);
     }

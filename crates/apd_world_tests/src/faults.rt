@@ -64,7 +64,7 @@
 //! | `Shared::collect` | `what_is_collected_is_what_a_core_hands_out`, `apd_desk_tests` |
 //! | `radio_worker`, `Shared::hand` in it | `no_out_is_lost_at_want_of_memory_or_at_a_stop`, `apd_desk_tests` |
 //! | `control_worker` | `a_command_is_of_the_interface_that_it_names`, `apd_desk_tests` |
-//! | `tick_worker` | `two_silent_stations_go_a_second_apart`, `apd_desk_tests` |
+//! | `tick_worker` | `a_turn_ends_once_nobody_is_silent`, `apd_desk_tests` |
 //! | `commit_all` | `a_batch_that_a_committer_held_is_settled`, `apd_desk_tests` |
 //! | `flush_worker` | `a_commit_that_is_refused_memory_is_tried_again`, `apd_desk_tests` |
 //! | `ControlPort`, `Senders::add` in it, `serve` | `each_sender_gets_its_own_replies`, `apd_serve_tests` |

@@ -23,4 +23,4 @@ returns-in-Control-clause-worked g c =
 pub returns-in-Ticks-clause-worked : goal.returns-in-Ticks-clause-worked
 returns-in-Ticks-clause-worked g c =
     subst (λ (old : Worker g.row.L.Denot g.row.D.Denot g.row.R.Denot g.row.P.Denot). HasWorked g.D.Disk.model g.R.Radio.model old (Ticks c.tick_worker.result)) (sym c.in-Ticks.is)
-    (has_ticked g.D.Disk.model g.R.Radio.model c.in-Ticks.seat c.tick_worker.result c.tick_worker.ensures)
+    (has_ticked g.D.Disk.model g.R.Radio.model c.in-Ticks.seat c.tick_worker.result c.tick_worker.ensures.later)
