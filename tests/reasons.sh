@@ -112,16 +112,25 @@ if mount -t tmpfs -o size=1m none full 2>/dev/null; then
     umount full
 fi
 
+# Has another process, which becomes $holder, hold a file.
+hold() {
+    rm -f sleeper
+    flock "$1" sh -c 'echo $$ >sleeper; exec sleep 30' &
+    while [ ! -s sleeper ]; do sleep 0.05; done
+    holder=$(ps -o ppid= -p "$(cat sleeper)" | tr -d ' ')
+}
+let_go() {
+    kill "$(cat sleeper)"
+    wait || true
+}
+
 # A store that is in use, and by whom.
-flock store sh -c 'echo $$ >holder; exec sleep 30' &
-while [ ! -s holder ]; do sleep 0.05; done
-holder=$(ps -o ppid= -p "$(cat holder)" | tr -d ' ')
+hold store
 for words in "check store" "script --store store" "run --store store --port $port conf" "format --missing store"; do
     # shellcheck disable=SC2086
     wants "$(unread store "in use by process $holder (flock)")" $words
 done
-kill "$(cat holder)"
-wait || true
+let_go
 
 # Recordings.
 wants "$(unread store.0 'its folder is not there' | sed 's/store\.0/none\/it.0/g')" \
@@ -132,6 +141,13 @@ wants "$(unread rec.0 'it begins as a store does, so nothing is recorded over it
 cp conf conf.0
 wants "$(unread conf.0 'the store, a configuration or a list, so nothing is recorded over it')" \
     run --store store --port "$port" --record conf conf.0
+limit="prlimit --nofile=7"
+wants "$(unread it.0 'too many open files (ulimit -n)')" \
+    run --end-at-fault --store store --port "$port" --record it conf
+limit=
+hold rec.0
+wants "$(unread rec.0 "in use by process $holder (flock)")" run --store store --port "$port" --record rec conf
+let_go
 rm -f rec.0
 
 # Ports.

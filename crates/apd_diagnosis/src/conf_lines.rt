@@ -13,7 +13,7 @@ use std::io::{ErrorKind, Read};
 use std::rt::Files;
 
 /// How many faulty lines are told of one file.
-pub const MOST_LINES: usize = 1_000;
+const MOST_LINES: usize = 1_000;
 
 // The bytes of a regular file; another one may give them only once.
 fn bytes_of(
@@ -128,7 +128,7 @@ fn tell_list_file(
 /// Tells of a configuration file and of the list files that it names: of each that can't be read why, of each faulty line
 /// of theirs what would be right, at most 1,000 of a file, and what a configuration file lacks. The first that is told is
 /// the fault by which the file is refused, where it is.
-pub fn tell_conf_file(
+pub(crate) fn tell_conf_file(
     rt: &(impl Files<File = File> + AllocGlobal),
     more: &mut More,
     name: &str,

@@ -4,6 +4,7 @@
 
 mod blanks;
 mod conf_lines;
+mod configurations;
 mod faulty_line;
 mod more;
 mod no_store;
@@ -12,9 +13,8 @@ mod repeats;
 mod shown;
 mod ssid_warning;
 
-pub use conf_lines::{MOST_LINES, tell_conf_file};
+pub use configurations::tell_configurations;
 pub use more::More;
 pub use no_store::tell_no_store;
 pub use ports::{PortUse, tell_ports};
-pub use repeats::tell_repeats;
 pub use ssid_warning::{SsidWarning, warning_of};

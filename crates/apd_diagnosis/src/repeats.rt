@@ -33,7 +33,7 @@ fn tell_shared(more: &mut More, earlier: &Named<'_>, later: &Named<'_>) -> Resul
 
 /// Tells of configuration files which interface and which BSSID of theirs is that of an earlier one, and whether there are
 /// too many.
-pub fn tell_repeats(
+pub(crate) fn tell_repeats(
     rt: &(impl Files<File = File> + AllocGlobal),
     more: &mut More,
     names: &[&str],

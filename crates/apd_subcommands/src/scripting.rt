@@ -1,6 +1,5 @@
 //! The subcommand that runs a script.
 use crate::fault::CommandFault;
-use crate::telling_more::names_of;
 use crate::warnings::warn_of_ssids;
 use apd_conf::Confs;
 use apd_disk::FileRecord;
@@ -12,6 +11,11 @@ use std::fs::File;
 use std::io::{self, BufRead, BufReader};
 use std::rt::Files;
 use std::time::Clock;
+
+/// The files of configurations that a subcommand is given.
+pub fn names_of<'a>(words: &'a ArgMatches<'_>) -> &'a [&'a str] {
+    words.get_strs("CONF").unwrap_or(&[])
+}
 
 // Runs a script on the store of the file of this name, and prints what it tells.
 fn run_script_on_file(
