@@ -16,7 +16,7 @@ wants() {
     status=0
     # (The limit is a command and its words.)
     # shellcheck disable=SC2086
-    timeout 20 $limit "$program" "$@" </dev/null >/dev/null 2>found || status=$?
+    timeout 60 $limit "$program" "$@" </dev/null >/dev/null 2>found || status=$?
     if [ "$status" != 1 ] || ! cmp -s wanted found; then
         echo "apd $*: status $status, and it says"
         cat found
