@@ -1,14 +1,17 @@
 -- What a note at a place changes.
-use Rattle.std.proofs.Common.{◌≡◌, ◌≢◌, ℕ, suc, zero, ◌<◌, Bool, true, false, cond, List, [], ◌∷◌, length, get_or, set, None, Some, refl, sym, ap, ◌∙◌, arith}
+use Rattle.std.proofs.Common.{◌≡◌, ◌≢◌, ℕ, suc, zero, ◌<◌, Bool, true, false, cond, List, [], ◌∷◌, length, get_or, set, Option, None, Some, refl, subst, sym, ap, ◌∙◌, arith}
 use Rattle.std.specs.List.{find, position}
+use Rattle.std.specs.Option.{option_map}
+use Rattle.std.specs.Prelude.{IfSome}
 use Rattle.std.specs.Ordering.{eq_by_cmp}
 use Rattle.std.specs.Cmp.{eq_by_cmp_equiv}
 use Rattle.std.proofs.lemmas.List.Folds.{find_past}
 use Rattle.std.proofs.lemmas.List.Quantifiers.{position-Some}
 use Rattle.apd_base.specs.declared.address.Bssid.{Bssid}
 use Rattle.apd_base.specs.Addr.{bssid_cmp}
+use Rattle.apd_conf.specs.declared.conf.Conf.{Conf}
 use Rattle.apd_base.proofs.AddrLemmas.{bssid_total, same_bssid}
-use Rattle.apd_desk.specs.RadioNotes.{Noting, is_for, is_note_of, is_noted_up, says_up}
+use Rattle.apd_desk.specs.RadioNotes.{Noting, is_for, is_note_of, is_noted_up, is_up_at, says_up}
 
 -- a write of an element that passes, behind elements that fail
 finds_set : {X : Type 0} (p : X → Bool) (xs : List X) (i : ℕ) (y d : X) → i < length xs → ((k : ℕ) → k < i → p (get_or xs k d) ≡ false) → p y ≡ true → find p (set xs i y) ≡ Some y
@@ -42,3 +45,23 @@ pub other_noted : (b o : Bssid) (up : Bool) (places : List Noting) (i : ℕ) →
 other_noted b o up places i other at =
     let found = position-Some (is_for b) places i None at in
     ap says_up (find_past (is_note_of o) places i (Some (b, up)) None (not_of_other b o other (get_or places i None) found.1) (apart b o other))
+
+-- ---- what commands are told
+not_failed : (failed : Bool) (places : List Noting) (b : Bssid) → is_up_at failed places b ≡ true → failed ≡ false
+not_failed true places b is = absurd (let no : ⊥ = cc in no)
+not_failed false places b is = refl
+
+abbrev IsTold : Bool → Option Conf → Option (Bssid × Bool) → Type 0
+IsTold failed meant found =
+    (option_map (λ it. it.0) found ≡ option_map (λ conf. conf.bssid) meant) × IfSome found (λ it. it.1 ≡ true → failed ≡ false)
+
+told_of : (failed : Bool) (places : List Noting) (meant : Option Conf)
+    → IsTold failed meant (option_map (λ conf. (conf.bssid, is_up_at failed places conf.bssid)) meant)
+told_of failed places None = (refl, tt)
+told_of failed places (Some conf) = (refl, not_failed failed places conf.bssid)
+
+pub told : (failed : Bool) (places : List Noting) (meant : Option Conf) (found : Option (Bssid × Bool))
+    → found ≡ option_map (λ conf. (conf.bssid, is_up_at failed places conf.bssid)) meant
+    → (option_map (λ it. it.0) found ≡ option_map (λ conf. conf.bssid) meant) × IfSome found (λ it. it.1 ≡ true → failed ≡ false)
+told failed places meant found is =
+    subst (λ (z : Option (Bssid × Bool)). IsTold failed meant z) (sym is) (told_of failed places meant)

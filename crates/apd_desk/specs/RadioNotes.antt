@@ -1,4 +1,4 @@
--- What was noted of radios (own).
+-- What was noted of radios, and what commands are told of interfaces (own).
 use Rattle.std.specs.Prelude.{List, Bool, true, false, Option, Some, None}
 use Rattle.std.specs.List.{find}
 use Rattle.std.specs.Ordering.{eq_by_cmp}
@@ -27,3 +27,9 @@ says_up (Some (Some note)) = note.1
 -- whether the radio of a BSSID is up, by the first note of it; one that has none is not
 abbrev pub is_noted_up : List Noting → Bssid → Bool
 is_noted_up places bssid = says_up (find (is_note_of bssid) places)
+
+-- whether the interface of a BSSID is up, as commands are told: its radio is noted to be, and the core has not failed, by
+-- which it would admit nobody any more
+abbrev pub is_up_at : Bool → List Noting → Bssid → Bool
+is_up_at true places bssid = false
+is_up_at false places bssid = is_noted_up places bssid

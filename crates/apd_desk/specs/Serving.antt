@@ -1,5 +1,5 @@
 -- What a radio's worker does to its slot, by its seat (own).
-use Rattle.std.specs.Prelude.{◌≡◌, ℕ, List, ◌∷◌, Option, Ok}
+use Rattle.std.specs.Prelude.{◌≡◌, ℕ, List, ◌∷◌, Option, Some, Ok}
 use Rattle.apd_radio.specs.Model.{RadioModel}
 use Rattle.apd_slot.specs.declared.mending.Mending.{Mending}
 use Rattle.apd_slot.specs.declared.slot.Slot.{Slot}
@@ -17,7 +17,8 @@ pub record HasServed {L R : Type 0} (radio : RadioModel R) (frames : R → Optio
   pub left : Mending R
   pub run : IsRadioRun radio frames by_seat seat later old new mending left
 
--- Which entry had settled when the slot was given what is ready is noted anew right behind a hand that succeeded alone.
-abbrev pub NotesHands : List RadioStep → Option ℕ → Option ℕ → Type 0
-NotesHands (Hand (Ok count) ∷ before) old new = Unit {0}
-NotesHands steps old new = new ≡ old
+-- Which entry had settled when the slot was given what is ready is noted anew right behind a hand that succeeded alone, and
+-- as it was seen before that hand.
+abbrev pub NotesHands : List RadioStep → ℕ → Option ℕ → Option ℕ → Type 0
+NotesHands (Hand (Ok count) ∷ before) settled old new = new ≡ Some settled
+NotesHands steps settled old new = new ≡ old

@@ -1,9 +1,10 @@
 //! What can be seen without the lock.
-use crate::locked::Look;
+use crate::locked::{Locked, Look};
 use std::sync::atomic::{AtomicBool, AtomicU64, Ordering};
+use std::sync::ledger::Ledger;
 
-/// What was posted of the shared core, for those who look while others hold the lock. Each piece is posted under the
-/// lock: who takes that after a look finds at least what was seen.
+/// What was posted of the shared core, for those who look while others hold the lock. Each post takes what lies under the
+/// lock, which nobody has but who holds that: who takes the lock after a look finds at least what was seen.
 #[derive(Drop)]
 pub(crate) struct Board {
     stopped: AtomicBool,
@@ -22,18 +23,19 @@ impl Board {
     }
 
     /// Posts how many entries were accepted.
-    pub(crate) fn post_accepted(&self, look: Look) {
-        self.accepted.store(look.accepted, Ordering::SeqCst);
+    pub(crate) fn post_accepted<L: Ledger>(&self, locked: &Locked<L>) {
+        self.accepted
+            .store(locked.look().accepted, Ordering::SeqCst);
     }
 
     /// Posts the number of the last settled one.
-    pub(crate) fn post_settled(&self, look: Look) {
-        self.settled.store(look.settled, Ordering::SeqCst);
+    pub(crate) fn post_settled<L: Ledger>(&self, locked: &Locked<L>) {
+        self.settled.store(locked.look().settled, Ordering::SeqCst);
     }
 
-    /// Posts that all are to stop.
-    pub(crate) fn post_stop(&self) {
-        self.stopped.store(true, Ordering::SeqCst);
+    /// Posts whether all are to stop.
+    pub(crate) fn post_stop<L: Ledger>(&self, locked: &Locked<L>) {
+        self.stopped.store(locked.look().stopped, Ordering::SeqCst);
     }
 
     /// What was posted last. The words are read one after the other, and posts may come in between.

@@ -1,5 +1,5 @@
 //! The worker of the control port.
-ghost use Rattle.std.specs.Prelude.{◌≡◌, ◌∷◌, [], IfOk, IfSome};
+ghost use Rattle.std.specs.Prelude.{◌≡◌, ◌≢◌, ◌∷◌, [], Some, IfOk, IfSome};
 ghost use Rattle.apd_desk.specs.Replying.{AreReplied, AreSettled, HasReplied, IsAnswerOfSomeCore, IsAtOnce, IsEither};
 ghost use Rattle.apd_desk.specs.Finding.{IsAnswerTo, IsFoundBySomeCore};
 ghost use Rattle.apd_desk.specs.SeatProgress.{IsLater};
@@ -166,6 +166,8 @@ fn reply_settled<L: Ledger, W: Wait, P: Port>(
 ) -> Progress
     ensures later { IsLater seat.old seat.new }
     ensures replied { HasReplied AreSettled (P.replied port.old) (P.replied port.new) }
+    ensures noted { result ≢ Progress.Short → collected.new ≡ Some seen.settled }
+    ensures short { result ≡ Progress.Short → collected.new ≡ collected.old }
 {
     if *collected == Some(seen.settled) {
         return Progress::Nothing;

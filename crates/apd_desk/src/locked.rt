@@ -12,7 +12,7 @@ ghost use Rattle.apd_slot.specs.Slots.{bssid_of};
 ghost use Rattle.apd_steps.specs.Handing.{HandsTo};
 ghost use Rattle.apd_steps.specs.Calls.{AskTells, CollectTells, SubmitTells, exactly, outs_in};
 ghost use Rattle.apd_desk.specs.Counted.{entries_in, entries_of_seats};
-ghost use Rattle.apd_desk.specs.RadioNotes.{is_for, is_noted_up};
+ghost use Rattle.apd_desk.specs.RadioNotes.{is_for, is_noted_up, is_up_at};
 ghost use Rattle.apd_desk.specs.TicketOwner.{IsOwn};
 ghost use Rattle.apd_desk.specs.SeatProgress.{seen_number_after, IsBehind, IsLater};
 
@@ -263,11 +263,25 @@ impl<L: Ledger> Locked<L> {
         self.notes.is_up(bssid)
     }
 
-    /// The BSSID of the interface of a name, and where none is named that of the first one.
-    pub(crate) fn interface(&self, name: Option<&[u8]>) -> Option<Bssid>
-        ensures { result ≡ option_map (λ conf. conf.bssid) (conf_meant self.now.core.confs (option_copied name.entry)) }
+    // Whether an interface is up, as commands are told: its radio is, as it was noted, and the core has not failed. It
+    // fails with the device, and where the store refuses a batch, as one that is worn out does.
+    fn is_up(&self, bssid: Bssid) -> bool
+        ensures { result ≡ is_up_at self.now.core.failed self.now.notes.noted bssid }
     {
-        Some(self.core.confs().for_command(name)?.bssid)
+        if self.core.has_failed() {
+            false
+        } else {
+            self.notes.is_up(bssid)
+        }
+    }
+
+    /// The interface of a name, and where none is named the first one: its BSSID, and whether it is up.
+    pub(crate) fn interface(&self, name: Option<&[u8]>) -> Option<(Bssid, bool)>
+        ensures { result ≡ option_map (λ conf. (conf.bssid, is_up_at self.now.core.failed self.now.notes.noted conf.bssid))
+            (conf_meant self.now.core.confs (option_copied name.entry)) }
+    {
+        let bssid = self.core.confs().for_command(name)?.bssid;
+        Some((bssid, self.is_up(bssid)))
     }
 
     /// The core, and the entries that it accepted since it was shared, which are those that the seats count. It is

@@ -96,20 +96,19 @@ impl<R: Radio> Parts<R> {
         progress
     }
 
-    // Puts into the slot's queue, if none waits there and entries were settled since, what of settled entries it was
-    // not given yet.
-    fn collect<A: Serves>(&mut self, core: &mut A) -> Progress
+    // Puts into the slot's queue, if none waits there and by this look entries were settled since, what of settled entries
+    // it was not given yet.
+    fn collect<A: Serves>(&mut self, core: &mut A, seen: Look) -> Progress
         ensures { (run : IsRadioRun R.model R.frames A.made core.old core.new
             self.old.slot self.new.slot self.old.mending self.new.mending)
-            × NotesHands run.steps self.old.collected self.new.collected }
+            × NotesHands run.steps seen.settled self.old.collected self.new.collected }
     {
-        let settled = Some(core.look().settled);
-        if self.slot.waiting_count() > 0 || self.collected == settled {
+        if self.slot.waiting_count() > 0 || self.collected == Some(seen.settled) {
             return Progress::Nothing;
         }
         match core.hand_to(&mut self.slot) {
             Ok(_count) => {
-                self.collected = settled;
+                self.collected = Some(seen.settled);
                 Progress::Nothing
             }
             Err(_) => Progress::Short,
@@ -144,7 +143,8 @@ impl<R: Radio> Parts<R> {
         ensures { IsRadioRun R.model R.frames A.made core.old core.new
             self.old.slot self.new.slot self.old.mending self.new.mending }
     {
-        let mut progress = self.collect(core);
+        let seen = core.look();
+        let mut progress = self.collect(core, seen);
         for _ in 0..AT_ONCE {
             let next = self.advance(core);
             progress = progress.max(next);

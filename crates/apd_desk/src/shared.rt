@@ -115,9 +115,8 @@ impl<L: Ledger> Shared<L> {
     // Posts how many entries were accepted by now. Who waits for entries is woken where there are more than were posted.
     pub(crate) fn end_burst(&self, rt: &impl Wait) {
         let locked = self.locked.lock(rt);
-        let now = locked.look();
-        let has_come = News::Entry.has_come(self.look(), now);
-        self.board.post_accepted(now);
+        let has_come = News::Entry.has_come(self.look(), locked.look());
+        self.board.post_accepted(&locked);
         drop(locked);
         if has_come {
             self.conditions.tell(News::Entry);
@@ -206,7 +205,7 @@ impl<L: Ledger> Shared<L> {
     pub fn stop(&self, rt: &impl Wait) {
         let mut locked = self.locked.lock(rt);
         locked.stop();
-        self.board.post_stop();
+        self.board.post_stop(&locked);
         drop(locked);
         self.conditions.tell(News::Stop);
         self.bells.ring_all();
@@ -224,14 +223,12 @@ impl<L: Ledger> Shared<L> {
         self.locked.lock(rt).is_noted_up(bssid)
     }
 
-    // The BSSID of the interface that a command names, or else of the first one, by the configurations of some core,
-    // and whether its radio is up. What is noted of that is said where the lock is held.
+    // The interface that a command names, or else the first one, by the configurations of some core: its BSSID, and
+    // whether it is up, which it is not where that core has failed. What is noted of that is said where the lock is held.
     pub(crate) fn interface(&self, rt: &impl Wait, name: Option<&[u8]>) -> Option<(Bssid, bool)>
         ensures { IsFoundBySomeCore (option_copied name.entry) result }
     {
-        let locked = self.locked.lock(rt);
-        let bssid = locked.interface(name)?;
-        Some((bssid, locked.is_noted_up(bssid)))
+        self.locked.lock(rt).interface(name)
     }
 
     // Keeps what wakes the worker of a recipient at its socket. Tells at which place, if there was one.
@@ -313,7 +310,7 @@ impl<L: Ledger, W: Wait> Settles for Committed<'_, L, W> {
         let shared = self.shared;
         let mut locked = shared.locked.lock(self.rt);
         let answer = locked.publish(receipt);
-        shared.board.post_settled(locked.look());
+        shared.board.post_settled(&locked);
         let ready = shared.bells.ready_places(&locked);
         drop(locked);
         if answer.is_ok() {

@@ -39,7 +39,7 @@ pub(crate) const WLAN0: Bssid = Bssid(Addr([2, 0, 0, 0, 0, 1]));
 pub(crate) const WLAN1: Bssid = Bssid(Addr([2, 0, 0, 0, 0, 2]));
 
 /// The number of a device's bytes.
-const LENGTH: usize = 2_097_216;
+pub(crate) const LENGTH: usize = 2_097_216;
 
 /// The station whose address ends by this byte.
 pub(crate) fn station(last: u8) -> Addr {

@@ -24,6 +24,8 @@ mod flaky;
 #[cfg(test)]
 mod habit;
 #[cfg(test)]
+mod health_tests;
+#[cfg(test)]
 mod hold;
 #[cfg(test)]
 mod memory_tests;

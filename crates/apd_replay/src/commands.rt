@@ -12,6 +12,8 @@ use std::alloc::{AllocError, Global};
 struct PortReading<'a> {
     plan: &'a Plan,
     failed: bool,
+    // The stamp of the end of the turn in which the device failed.
+    fault: Option<u64>,
     // The last number that its own seat was told of.
     told: u64,
     // What it saw last of the radio that a command is about.
@@ -23,6 +25,7 @@ struct PortReading<'a> {
 
 #[derive(Clone, Copy)]
 struct Command {
+    stamp: u64,
     from: u64,
     seen: Option<Seen>,
     is_entry: bool,
@@ -30,10 +33,11 @@ struct Command {
 }
 
 impl PortReading<'_> {
-    fn give(&mut self) -> Result<(), AllocError> {
+    fn give(&mut self, stamp: u64) -> Result<(), AllocError> {
         let from = self.told;
         let seen = self.seen.take();
         self.commands.push(Command {
+            stamp,
             from,
             seen,
             is_entry: false,
@@ -110,8 +114,17 @@ fn steadily_up(from: Option<Seen>, to: Option<Seen>) -> Option<bool> {
     }
 }
 
-// What has to be replied to a command, where its radio was up, or down, if that is known.
-fn wanted_reply(plan: &Plan, bytes: &[u8], up: Option<bool>) -> Wanted {
+// How an interface may have been told to be, whose radio was up, or down, if that is known: it is down once the core has
+// failed, which it has behind the fault of the device.
+fn may_be_up(command: Command, up: Option<bool>, failed: bool, fault: Option<u64>) -> [bool; 2] {
+    if fault.is_some_and(|fault| command.stamp > fault) {
+        return [false, false];
+    }
+    [up.unwrap_or(true), up.unwrap_or(false) && !failed]
+}
+
+// What has to be replied to a command, whose interface is either.
+fn wanted_reply(plan: &Plan, bytes: &[u8], [up, or_up]: [bool; 2]) -> Wanted {
     let (interface, command) = match parse_command(bytes) {
         Parsed::Command { interface, command } => (interface, command),
         Parsed::Unknown => return Wanted::Text(UNKNOWN_COMMAND),
@@ -120,8 +133,8 @@ fn wanted_reply(plan: &Plan, bytes: &[u8], up: Option<bool>) -> Wanted {
     let Some(conf) = plan.confs.for_command(interface) else {
         return Wanted::Text(FAIL);
     };
-    let one = command.at(conf.bssid, up.unwrap_or(true), 0);
-    let other = command.at(conf.bssid, up.unwrap_or(false), 0);
+    let one = command.at(conf.bssid, up, 0);
+    let other = command.at(conf.bssid, or_up, 0);
     match (one, other) {
         (Placed::Ask(one), Placed::Ask(other)) => Wanted::Answer([one, other]),
         _ => Wanted::Order,
@@ -153,7 +166,9 @@ impl History {
         let (Some(command), Some(bytes)) = (port.reply_to(tag), port.plan.command(tag)) else {
             return Err(Fault::ReplyTwice(tag));
         };
-        match wanted_reply(port.plan, bytes, steadily_up(command.seen, seen)) {
+        let up = steadily_up(command.seen, seen);
+        let may_be_up = may_be_up(command, up, port.failed, port.fault);
+        match wanted_reply(port.plan, bytes, may_be_up) {
             Wanted::Text(wanted) => check_same(tag, text, digest(wanted)),
             Wanted::Order => self.add_order_reply(command, port.failed, tag, text),
             Wanted::Answer(queries) => {
@@ -171,7 +186,7 @@ impl History {
 
     fn read_port(&mut self, port: &mut PortReading<'_>, note: Note) -> Result<(), Fault> {
         match note {
-            Note::Given(..) => Ok(port.give()?),
+            Note::Given(stamp, _) => Ok(port.give(stamp)?),
             Note::Accepted(_) => {
                 port.accept();
                 Ok(())
@@ -195,11 +210,13 @@ impl History {
         alloc: Global,
         plan: &Plan,
         failed: bool,
+        fault: Option<u64>,
         notes: &[Note],
     ) -> Result<(), Fault> {
         let mut port = PortReading {
             plan,
             failed,
+            fault,
             told: 0,
             seen: None,
             commands: Vec::new(alloc),

@@ -375,6 +375,12 @@ fn check_fault(history: &History, fault: Option<u64>) -> Result<(), Fault> {
     Ok(())
 }
 
+// The stamp of the end of the turn in which the device failed, if it did.
+fn fault_in(rt: &impl Wait, alloc: Global, lane: Option<&Lane>) -> Result<Option<u64>, Fault> {
+    let notes = notes_of(rt, alloc, lane)?;
+    read_turns(notes.as_slice())
+}
+
 // The notes of a log.
 fn notes_of(rt: &impl Wait, alloc: Global, lane: Option<&Lane>) -> Result<Vec<Note>, Fault> {
     match lane {
@@ -448,11 +454,12 @@ impl History {
         alloc: Global,
         plan: &Plan,
         failed: bool,
+        fault: Option<u64>,
         lane: Option<&Lane>,
     ) -> Result<(), Fault> {
         let notes = notes_of(rt, alloc, lane)?;
         self.add_other(alloc, plan, Giver::Port, notes.as_slice())?;
-        self.add_port(alloc, plan, failed, notes.as_slice())
+        self.add_port(alloc, plan, failed, fault, notes.as_slice())
     }
 
     fn add_tick_log(
@@ -466,16 +473,6 @@ impl History {
         self.add_other(alloc, plan, Giver::Clock, notes.as_slice())
     }
 
-    fn check_commit_log(
-        &self,
-        rt: &impl Wait,
-        alloc: Global,
-        lane: Option<&Lane>,
-    ) -> Result<(), Fault> {
-        let notes = notes_of(rt, alloc, lane)?;
-        check_fault(self, read_turns(notes.as_slice())?)
-    }
-
     // Adds what the port's notes say, and those of ticks, and looks at those of commits.
     fn add_others(
         &mut self,
@@ -486,9 +483,11 @@ impl History {
         failed: bool,
     ) -> Result<(), Fault> {
         let mut others = lanes.iter().skip(plan.radios.len());
-        self.add_port_log(rt, alloc, plan, failed, others.next())?;
-        self.add_tick_log(rt, alloc, plan, others.next())?;
-        self.check_commit_log(rt, alloc, others.next())
+        let (port, ticks) = (others.next(), others.next());
+        let fault = fault_in(rt, alloc, others.next())?;
+        self.add_port_log(rt, alloc, plan, failed, fault, port)?;
+        self.add_tick_log(rt, alloc, plan, ticks)?;
+        check_fault(self, fault)
     }
 
     // Adds the entries of all workers, what the port was told, and the frames that became no entries.
