@@ -36,6 +36,7 @@ AUTHENTICATION, ASSOCIATION = ("b000", "000000000100 0000"), ("0000", "0000 3104
 DISASSOCIATION, DATA = ("a000", "0000 0800"), ("0801", "0000")
 SERVES = f"[INFO  apd] serves commands on port {port}, wlan0 on port {port + 1}; stations recovered: "
 ENDED = "[INFO  apd] standard input ended: ends"
+FAILED = "[ERROR apd] store: sync: Input/output error (os error 5)"
 FAULT = ("[ERROR apd] device fault: nothing more is made durable, and what would change the table is refused; "
          "end it, see to the disk, and start it again")
 
@@ -176,8 +177,8 @@ run.wants("list files then", [
 # A store that grows, and one that is cut.
 for length, text in [
     (2097217, "grew to 2097217 bytes, from 2097216: a start from it is refused until it is cut to these"),
-    (4096, "was cut to 4096 bytes, of 2097216: what the store holds, and what is told from now on, may be lost when "
-           "this ends"),
+    (4096, "was cut to 4096 bytes, of 2097216: what the store holds may be lost when this ends, and its device "
+           "fails from now on"),
 ]:
     new_store("other")
     run = Run("conf", store="other")
@@ -204,6 +205,20 @@ wanted = [f"wlan0 {line.strip()}" for line in open("calls.0") if line.split()[0]
 if found != wanted or len(wanted) != 3:
     die(f"a script of a recording: {done}; wanted: {wanted}")
 print(f"a script of a recording: {found[1]}")
+
+# A recording that can't be emptied is told before a port that is taken, and a refused start empties none.
+new_store()
+open("kept.0", "w").write("down\n")
+taken = socket.socket(socket.AF_INET, socket.SOCK_DGRAM)
+taken.bind(("127.0.0.1", port))
+start = [program, "run", "--record", "kept", "--store", "store", "--port", str(port), "conf"]
+for under, fault in (["strace", "-f", "-qq", "-o", "/dev/null", "-e", "inject=ftruncate:error=EPERM"],
+                     "apd: cannot read kept.0"), ([], "apd: no socket"):
+    done = subprocess.run([*under, *start], stdin=subprocess.DEVNULL, capture_output=True, timeout=20, text=True)
+    if done.returncode != 1 or done.stderr.splitlines()[0] != fault or open("kept.0").read() != "down\n":
+        die(f"a recording that can't be emptied: {done}; wanted: {fault}")
+    print(f"a recording before its port: {fault}")
+taken.close()
 
 # A recording that reaches a limit on files, which is above a store's length.
 def limit():
@@ -294,8 +309,10 @@ run.send(frame(ASSOCIATION, "aa"), 1)
 run.wait_for("device fault")
 if not run.ask(b"STATUS", 0).startswith(b"state=ENABLED\n") or run.ask(b"DENY_ACL CLEAR", 0) != b"FAIL\n":
     die("a device fault: it doesn't go on")
+run.wait_for("store: sync: ")
 run.end()
-run.wants("a device fault", [SERVES + "0", FAULT, "[INFO  apd] entries 2", "apd: device fault"], 1)
+run.wants("a device fault", [SERVES + "0", FAULT, FAILED, "[INFO  apd] entries 2", "apd: device fault"], 1,
+          key=lambda line: line == FAILED)
 
 new_store()
 run = Run("--log-stations", "--end-at-fault", "conf", under=FAILING)
@@ -307,7 +324,8 @@ try:
 except subprocess.TimeoutExpired:
     run.process.kill()
     die("--end-at-fault: it goes on")
-run.wants("--end-at-fault", [SERVES + "0", FAULT, "[INFO  apd] entries 2", "apd: device fault"], 1)
+run.wants("--end-at-fault", [SERVES + "0", FAULT, FAILED, "[INFO  apd] entries 2", "apd: device fault"], 1,
+          key=lambda line: line == FAILED)
 
 # Where a thread can't be had, one for what is watched and one for each worker, it never says that it serves.
 new_store()

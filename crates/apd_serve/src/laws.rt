@@ -3,7 +3,7 @@ ghost use Rattle.std.specs.Prelude.{◌≡◌, ℕ, List};
 ghost use Rattle.apd_conf.specs.declared.conf.Conf.{Conf};
 ghost use Rattle.apd_disk.specs.FileCalls.{file_reads};
 ghost use Rattle.apd_disk.specs.FileModel.{file_model};
-ghost use Rattle.apd_disk.specs.SystemFile.{FileDisk};
+ghost use Rattle.apd_site.specs.StoreDisk.{StoreDisk};
 ghost use Rattle.apd_disk.specs.declared.record.FileRecord.{FileRecord};
 ghost use Rattle.apd_world.specs.History.{History, Keeps, after};
 ghost use Rattle.apd_world.specs.SafelyMade.{AreSafelyMade};
@@ -23,17 +23,17 @@ use apd_world::laws::histories_join;
 /// it was made.
 pub fn a_stop_leaves_a_file_that_keeps_the_history<R: Radio>()
     ensures now { (known : FileRecord) (confs : List Conf) (steps : List Step) (tolds : List Told)
-        (begun new : World FileDisk R) (over : IsBegunOver known confs begun)
+        (begun new : World StoreDisk R) (over : IsBegunOver known confs begun)
         → AreSafelyMade file_model R.model steps tolds begun new
         → IsKept known steps tolds begun new (first_history over) }
     ensures since { (known : FileRecord) (confs : List Conf) (steps : List Step) (tolds : List Told)
-        (begun new : World FileDisk R) (over : IsBegunOver known confs begun)
+        (begun new : World StoreDisk R) (over : IsBegunOver known confs begun)
         → AreSafelyMade file_model R.model steps tolds begun new → (count : ℕ)
         → IsKeptSince R.model known count steps tolds begun new (first_history over) }
-    ensures next { (known : FileRecord) (confs : List Conf) (world : World FileDisk R)
+    ensures next { (known : FileRecord) (confs : List Conf) (world : World StoreDisk R)
         (over : IsBegunOver known confs world) (old last : History)
         (kept : Keeps old last (file_reads known.held known.calls)) → over.table ≡ after last kept.front }
 {
-    histories_join::<apd_disk::FileDisk, R>();
+    histories_join::<apd_site::StoreDisk, R>();
     an_image_shows_one_state();
 }

@@ -12,12 +12,12 @@ use crate::telling_port::TellingPort;
 use apd_conf::Confs;
 use apd_control_port::ControlPort;
 use apd_desk::{NoGate, Port};
-use apd_disk::{Disk, FileDisk, FileRecord};
+use apd_disk::{Disk, FileRecord};
 use apd_radio::{Radio, SocketFault};
 use apd_site::{
-    Alarm, Driven, Edits, Elsewhere, Ending, OpenFault, RecordingFile, Site, SiteFault, StoreWatch,
-    TellingInput, UntilFault, elsewhere_of, open_radios, open_recordings_of, open_watch,
-    site_radios, tell_entries, tell_lists, tell_unserved, watch, words_of_served,
+    Alarm, Driven, Edits, Elsewhere, Ending, OpenFault, RecordingFile, Site, SiteFault, StoreDisk,
+    StoreWatch, TellingInput, UntilFault, elsewhere_of, open_radios, open_recordings_of,
+    open_watch, site_radios, tell_entries, tell_lists, tell_unserved, watch, words_of_served,
 };
 use apd_store::StoreFault;
 use apd_world::WorldFault;
@@ -94,17 +94,27 @@ struct SiteFiles<'a> {
     recordings: Option<Vec<RecordingFile>>,
 }
 
+// What watches the file of a store that was opened.
+fn open_watch_of<'a>(
+    rt: &(impl Files<File = File> + AllocGlobal),
+    store: &OpenStore,
+    site: &Site<'a>,
+) -> Result<StoreWatch<'a>, RunFault> {
+    let state = store.state().clone()?;
+    Ok(open_watch(rt, site.store, state)?)
+}
+
 fn open_files<'a>(
     rt: &(impl Files<File = File> + Clock + AllocGlobal),
     confs: &Confs,
     site: &Site<'a>,
 ) -> Result<SiteFiles<'a>, RunFault> {
     let store = open_store(rt, site.store, FileRecord::new())?;
-    let watched = match open_watch(rt, site.store) {
+    let watched = match open_watch_of(rt, &store, site) {
         Ok(watched) => watched,
         Err(fault) => {
             drop(store);
-            return Err(fault.into());
+            return Err(fault);
         }
     };
     match open_recordings_of(rt, confs, site) {
@@ -188,7 +198,7 @@ fn start_world<W: AllocGlobal + Log, R: Radio>(
     confs: Confs,
     port: u16,
     radios: Vec<R>,
-) -> Result<(StartedWorld<FileDisk, R>, String), RunFault> {
+) -> Result<(StartedWorld<StoreDisk, R>, String), RunFault> {
     tell_lists(rt, &confs, store.table());
     let recovered = store.table().rows();
     let world = begin_world(rt.alloc(), store, confs, radios)?;
@@ -452,9 +462,10 @@ where
 /// these say of each record is so of the one that fits the file.
 ///
 /// Errors, looked for in this order: the system can't wait for the input, where a fault is to end it; the store's file
-/// can't be opened, or the store is refused; a recording can't be made; a port can't be had; a recording can't be
-/// emptied; a slot doesn't resume; `Serve`. Before `Serve` nothing is sent, and the store is as it was; with it the start
-/// may have been committed and handed out. Before the ports are had no file is emptied. `NoMemory` comes at any place. That
+/// can't be opened, or the store is refused; a recording can't be made, or can't be emptied; a port can't be had; a slot
+/// doesn't resume; `Serve`. Before `Serve` nothing is sent, and the store is as it was; with it the start
+/// may have been committed and handed out. Before the ports are had no file is emptied: whether it can be is found by
+/// giving it the length that it has. `NoMemory` comes at any place. That
 /// the store's device failed while it served is told by `Serve`, once the count of entries was logged.
 pub fn run<
     W: Files<File = File> + Net + Wait + Threads + Clock + AllocGlobal + Log + Sync,

@@ -1,9 +1,10 @@
 use crate::configurations::{alone, built_in, conf_of, confs_of, file_of};
 use crate::expect::expect;
-use crate::files::{new_store, remove_all};
+use crate::files::{new_store, read, remove_all};
 use crate::hearing::{ENDED, Hearing};
-use crate::running_tests::{confs, run_at, runs_with};
-use crate::talk::{CONTROL, Datagram, Line, free_ports};
+use crate::running_tests::{confs, expect_answer, run_at, runs_with};
+use crate::stage::Stage;
+use crate::talk::{AUTHENTICATION, CONTROL, Datagram, Line, RADIO, Talk, free_ports};
 use apd_conf::Confs;
 use log::Log;
 use std::alloc::Global;
@@ -148,7 +149,7 @@ where
 #[test]
 fn a_store_that_is_cut_is_told(rt: HostRuntime) {
     let line =
-        "[ERROR apd] cut_store was cut to 4096 bytes, of 2097216: what the store holds, and what is told from now on, may be lost when this ends\n";
+        "[ERROR apd] cut_store was cut to 4096 bytes, of 2097216: what the store holds may be lost when this ends, and its device fails from now on\n";
     tells_of_length(rt, "cut_store", 4_096, line);
 }
 
@@ -204,7 +205,7 @@ where
 #[test]
 fn a_store_that_is_removed_is_told(rt: HostRuntime) {
     let line =
-        "[ERROR apd] removed_store was removed: what the store holds, and what is told from now on, is lost when this ends\n";
+        "[ERROR apd] removed_store was removed: what the store holds is lost when this ends, and its device fails from now on\n";
     let name = "removed_store";
     new_store(&rt, name);
     let hearing = Hearing::new(rt, rt.alloc());
@@ -215,7 +216,7 @@ fn a_store_that_is_removed_is_told(rt: HostRuntime) {
 #[test]
 fn a_store_that_gets_another_name_is_told(rt: HostRuntime) {
     let line =
-        "[ERROR apd] moved_store is not the store that is served any more: a start from moved_store knows nothing of what is told from now on\n";
+        "[ERROR apd] moved_store is not the store that is served any more: a start from moved_store begins elsewhere, and the store's device fails from now on\n";
     let name = "moved_store";
     new_store(&rt, name);
     let hearing = Hearing::new(rt, rt.alloc());
@@ -226,4 +227,81 @@ fn a_store_that_gets_another_name_is_told(rt: HostRuntime) {
     );
     hearing.expect_heard_once(line);
     remove_all(&rt, &["store_elsewhere"]);
+}
+
+/// A talk behind an input that changes the store's file.
+#[derive(Drop)]
+struct Behind<'a, B> {
+    change: Option<B>,
+    talk: Talk<'a>,
+}
+
+impl<B: Read + Drop> Read for Behind<'_, B> {
+    fn read(&mut self, buf: &mut [u8]) -> io::Result<usize> {
+        if let Some(mut change) = self.change.take() {
+            let changed = change.read(buf);
+            drop(change);
+            changed?;
+        }
+        self.talk.read(buf)
+    }
+}
+
+/// Ends the test where a store is told anything but a device fault behind this change of its file: no frame is answered,
+/// no edit is taken, and `run` ends by that fault.
+fn fails_behind<
+    R: Files<File = File> + Net + Wait + Threads + Clock + AllocGlobal + Log + Sync + Abort,
+    B: Read + Drop,
+>(rt: &R, store: &str, change: B)
+where
+    R::Dir: Send + Sync,
+    R::Stream: Send + Sync,
+    R::Listener: Send + Sync,
+{
+    const LINES: &[Line] = &[
+        Line::Sends(0, RADIO, Datagram::Hex(AUTHENTICATION)),
+        Line::GetsNothing(0),
+        Line::Sends(
+            1,
+            CONTROL,
+            Datagram::Text("DENY_ACL ADD_MAC 02:00:00:00:00:ab"),
+        ),
+        Line::Gets(1, CONTROL, Datagram::Text("FAIL\n")),
+    ];
+    let stage = Stage::new(false);
+    let port = free_ports(rt, 1);
+    let mut reader = Behind {
+        change: Some(change),
+        talk: Talk::new(rt, rt.alloc(), port, LINES, &stage),
+    };
+    let answer = run_at(rt, store, None, confs(rt, 1), port, &[], &mut reader);
+    let said = reader.talk.said_count();
+    drop(reader);
+    expect_answer(rt, answer, "device fault");
+    expect(rt, said, LINES.len());
+}
+
+#[test]
+fn a_store_that_is_removed_takes_nothing_more(rt: HostRuntime) {
+    let name = "failing_removed_store";
+    new_store(&rt, name);
+    fails_behind(&rt, name, Renaming::new(rt, name, None));
+}
+
+#[test]
+fn a_store_that_gets_another_name_takes_nothing_more(rt: HostRuntime) {
+    let (name, other) = ("failing_moved_store", "failing_store_elsewhere");
+    new_store(&rt, name);
+    fails_behind(&rt, name, Renaming::new(rt, name, Some(other)));
+    remove_all(&rt, &[other]);
+}
+
+#[test]
+fn a_store_that_is_cut_takes_nothing_more(rt: HostRuntime) {
+    let name = "failing_cut_store";
+    new_store(&rt, name);
+    let length = 4_096;
+    fails_behind(&rt, name, Resizing { rt, name, length });
+    expect(&rt, read(&rt, name).len(), 4_096);
+    remove_all(&rt, &[name]);
 }

@@ -5,18 +5,20 @@ use crate::opening::{OpenFault, file_or_fault};
 use crate::recordings::{RecordingFile, open_recordings};
 use crate::site::{Site, SiteFault};
 use crate::store_watch::StoreWatch;
+use crate::watched_file::FileState;
 use apd_conf::Confs;
 use std::alloc::AllocError;
 use std::fs::File;
 use std::rt::Files;
 
-/// Opens the store's file once more, to look at it alone. The disk holds the lock of its own: a file that can be locked
+/// Opens the store's file once more, to look at it alone, and to note there where it is lost. The disk holds the lock of its own: a file that can be locked
 /// is another one, which was given the name meanwhile.
 pub fn open_watch<'a>(
     rt: &(impl Files<File = File> + AllocGlobal),
     name: &'a str,
+    state: FileState,
 ) -> Result<StoreWatch<'a>, OpenFault> {
-    let opened = StoreWatch::open(rt, name).map_err(FileReason::from);
+    let opened = StoreWatch::open(rt, name, state).map_err(FileReason::from);
     file_or_fault(rt, name, opened)
 }
 

@@ -22,6 +22,7 @@ mod telling_file;
 mod telling_input;
 mod telling_radio;
 mod until_fault;
+mod watched_file;
 
 pub use alarm::Alarm;
 pub use edits::{Edits, ListEdit};
@@ -46,3 +47,4 @@ pub use telling_file::TellingFile;
 pub use telling_input::TellingInput;
 pub use telling_radio::TellingRadio;
 pub use until_fault::UntilFault;
+pub use watched_file::{FailedCall, FileState, StoreDisk, WatchedFile, watched_disk};

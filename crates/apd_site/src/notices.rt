@@ -1,6 +1,7 @@
 //! What is told on standard error while it serves, each with the target `apd`.
 use crate::edits::ListEdit;
 use crate::store_watch::{Fate, Misfit};
+use crate::watched_file::FailedCall;
 use apd_base::Addr;
 use apd_base::limits::DEVICE_LENGTH;
 use apd_conf::{Conf, Confs};
@@ -95,6 +96,11 @@ pub fn tell_device_fault<R: Log>(rt: &R) {
     error!(rt; target: "apd", "device fault: nothing more is made durable, and what would change the table is refused; end it, see to the disk, and start it again");
 }
 
+/// Logs, at the level error, which call of the store's file failed, and why.
+pub(crate) fn tell_failed_call<R: Log>(rt: &R, name: &str, failed: &FailedCall) {
+    error!(rt; target: "apd", "{name}: {failed}");
+}
+
 /// Logs that the store is worn out, at the level error.
 pub fn tell_worn_out<R: Log>(rt: &R) {
     error!(rt; target: "apd", "the store is worn out: nothing more is made durable, and what would change the table is refused; end it, and start it on a new store");
@@ -105,10 +111,10 @@ pub(crate) fn tell_fate<R: Log>(rt: &R, name: &str, fate: Fate) {
     match fate {
         Fate::Named => {}
         Fate::Removed => {
-            error!(rt; target: "apd", "{name} was removed: what the store holds, and what is told from now on, is lost when this ends");
+            error!(rt; target: "apd", "{name} was removed: what the store holds is lost when this ends, and its device fails from now on");
         }
         Fate::Replaced => {
-            error!(rt; target: "apd", "{name} is not the store that is served any more: a start from {name} knows nothing of what is told from now on");
+            error!(rt; target: "apd", "{name} is not the store that is served any more: a start from {name} begins elsewhere, and the store's device fails from now on");
         }
     }
 }
@@ -117,7 +123,7 @@ pub(crate) fn tell_fate<R: Log>(rt: &R, name: &str, fate: Fate) {
 pub(crate) fn tell_length<R: Log>(rt: &R, name: &str, misfit: Misfit) {
     match misfit {
         Misfit::Cut(length) => {
-            error!(rt; target: "apd", "{name} was cut to {length} bytes, of {DEVICE_LENGTH}: what the store holds, and what is told from now on, may be lost when this ends");
+            error!(rt; target: "apd", "{name} was cut to {length} bytes, of {DEVICE_LENGTH}: what the store holds may be lost when this ends, and its device fails from now on");
         }
         Misfit::Grown(length) => {
             error!(rt; target: "apd", "{name} grew to {length} bytes, from {DEVICE_LENGTH}: a start from it is refused until it is cut to these");

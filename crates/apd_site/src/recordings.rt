@@ -30,6 +30,11 @@ pub fn begins_as_a_store(file: &File) -> io::Result<bool> {
     }
 }
 
+// Whether a file can be emptied: it is given the length that it has. Its bytes stay.
+fn try_to_cut(file: &File) -> io::Result<()> {
+    file.set_len(file.metadata()?.len())
+}
+
 // Locks a file that is going to be emptied.
 fn lock(rt: &(impl Files<File = File> + AllocGlobal), file: &File) -> Result<(), FileReason> {
     match file.try_lock() {
@@ -42,7 +47,7 @@ fn lock(rt: &(impl Files<File = File> + AllocGlobal), file: &File) -> Result<(),
     }
 }
 
-// Locks a file that may be emptied: a regular one that isn't taken, nor begins as a store does.
+// Locks a file that may be emptied, and can be: a regular one that isn't taken, nor begins as a store does.
 fn claim(
     rt: &(impl Files<File = File> + AllocGlobal),
     file: &File,
@@ -60,6 +65,7 @@ fn claim(
     if begins_as_a_store(file)? {
         return Err(FileReason::IsStore);
     }
+    try_to_cut(file)?;
     Ok(())
 }
 
@@ -86,8 +92,8 @@ fn open(
 
 /// Opens the files of so many recordings, none of which is one of those that are taken. What they hold stays.
 ///
-/// Errors: `CannotRead` where one can't be opened or made, is taken, is locked, begins as a store does or is no regular
-/// file. Files that were made before it stay, with nothing in them.
+/// Errors: `CannotRead` where one can't be opened or made, is taken, is locked, begins as a store does, is no regular
+/// file or can't be cut. Files that were made before it stay, with nothing in them.
 pub(crate) fn open_recordings(
     rt: &(impl Files<File = File> + AllocGlobal),
     prefix: &str,

@@ -4,7 +4,8 @@ ghost use Rattle.apd_base.specs.declared.limits.TheConstants.{DEVICE_LENGTH};
 
 use crate::elsewhere::Elsewhere;
 use crate::identity::Identity;
-use crate::notices::{tell_fate, tell_length};
+use crate::notices::{tell_failed_call, tell_fate, tell_length};
+use crate::watched_file::FileState;
 use apd_base::limits::DEVICE_LENGTH;
 use log::Log;
 use std::fs::{File, TryLockError, metadata};
@@ -64,6 +65,14 @@ fn misfit_of(length: u64) -> Option<Misfit>
     }
 }
 
+// Whether bytes of it are gone.
+fn is_cut(misfit: Misfit) -> bool {
+    match misfit {
+        Misfit::Cut(_) => true,
+        Misfit::Grown(_) => false,
+    }
+}
+
 // Whether such a fault says that a name is no file's.
 fn is_none_there(kind: ErrorKind) -> bool {
     kind == ErrorKind::NotFound || kind == ErrorKind::NotADirectory
@@ -74,26 +83,31 @@ fn is_none_there(kind: ErrorKind) -> bool {
 pub struct StoreWatch<'a> {
     name: &'a str,
     file: File,
+    state: FileState,
     fate_told: bool,
     misfit_told: bool,
+    failed_told: bool,
 }
 
 impl<'a> StoreWatch<'a> {
-    /// Opens the file of a name, which is locked, to look at it alone.
+    /// Opens the file of a name, which is locked, to look at it alone. Where it is lost, that is noted there.
     ///
     /// Errors: `NotFound` where nobody holds its lock: it is another file than the one that was opened and locked under
     /// this name. Else the system's own.
     pub(crate) fn open(
         files: &impl Files<File = File>,
         name: &'a str,
+        state: FileState,
     ) -> io::Result<StoreWatch<'a>> {
         let file = File::open(files, name)?;
         match file.try_lock_shared() {
             Err(TryLockError::WouldBlock) => Ok(StoreWatch {
                 name,
                 file,
+                state,
                 fate_told: false,
                 misfit_told: false,
+                failed_told: false,
             }),
             Err(TryLockError::Error(error)) => Err(error),
             Ok(()) => Err(ErrorKind::NotFound.into()),
@@ -117,21 +131,36 @@ impl<'a> StoreWatch<'a> {
         misfit_of(open.len())
     }
 
-    // Looks at its name and its length. What is otherwise than at first is told once; what the system doesn't tell is
-    // asked again.
+    // Looks at its name and its length. What is otherwise than at first is told once, and but for a file that grew, it is
+    // noted as lost; what the system doesn't tell is asked again.
     fn look<W: Files<File = File> + Log>(&mut self, rt: &W) {
         if !self.fate_told
             && let Ok(fate) = self.fate(rt)
             && fate != Fate::Named
         {
+            self.state.note_lost();
             tell_fate(rt, self.name, fate);
             self.fate_told = true;
         }
         if !self.misfit_told
             && let Some(misfit) = self.misfit()
         {
+            if is_cut(misfit) {
+                self.state.note_lost();
+            }
             tell_length(rt, self.name, misfit);
             self.misfit_told = true;
+        }
+        self.tell_failed_call(rt);
+    }
+
+    // Tells once which call of it failed first.
+    fn tell_failed_call<L: Log>(&mut self, log: &L) {
+        if !self.failed_told
+            && let Some(failed) = self.state.failed_call()
+        {
+            tell_failed_call(log, self.name, failed);
+            self.failed_told = true;
         }
     }
 }
@@ -176,6 +205,7 @@ pub fn watch<W: Files<File = File> + Wait + Clock + Log>(
 ) {
     for _ in rt.forever() {
         if ending.wait_for_end(rt, Duration::from_millis(PAUSE)) {
+            store.tell_failed_call(rt);
             return;
         }
         store.look(rt);

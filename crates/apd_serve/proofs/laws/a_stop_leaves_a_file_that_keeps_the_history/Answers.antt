@@ -4,7 +4,7 @@ use Rattle.apd_disk.specs.FileCalls.{FileCall, FileLeaves, FileLeftSince}
 use Rattle.apd_disk.specs.for_proofs.FileLaws.{now_since}
 use Rattle.apd_disk.specs.FileModel.{file_model}
 use Rattle.apd_disk.specs.FileMore.{HasMore, has_more}
-use Rattle.apd_disk.specs.SystemFile.{FileDisk}
+use Rattle.apd_site.specs.StoreDisk.{StoreDisk}
 use Rattle.apd_disk.specs.declared.record.FileRecord.{FileRecord}
 use Rattle.apd_radio.specs.Model.{RadioModel}
 use Rattle.apd_world.specs.History.{History}
@@ -33,7 +33,7 @@ since_of known mid new before behind image left =
     (subst (λ (calls : List FileCall). FileLeftSince known.held (behind.since ++ calls) (length calls) image)
     (sym before.calls) left))
 
-module _ {R : Type 0} (mid new : World FileDisk R) where
+module _ {R : Type 0} (mid new : World StoreDisk R) where
   -- no steps leave the world
   none_made : (radio : RadioModel R) (steps : List Step) (tolds : List Told) → steps ≡ [] → tolds ≡ []
       → AreMadeInTurn file_model radio steps tolds mid new → new ≡ mid
@@ -45,7 +45,7 @@ module _ {R : Type 0} (mid new : World FileDisk R) where
   as_durable : (between later : History) → new ≡ mid → StandsFor mid between → StandsFor new later
       → later.before ≡ between.before → later.durable ≤ between.durable
   as_durable between later same was is before =
-      omega (arith, was.number, is.number, before, ap (λ (w : World FileDisk R). (durable_of w).core.number) same)
+      omega (arith, was.number, is.number, before, ap (λ (w : World StoreDisk R). (durable_of w).core.number) same)
 
 pub returns-clause-now : goal.returns-clause-now
 returns-clause-now g c = λ known confs steps tolds begun new over made.
