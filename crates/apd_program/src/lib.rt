@@ -4,8 +4,11 @@
 
 mod fault;
 mod host;
+mod lines;
 mod program;
+mod relay;
 mod running;
+mod stamped;
 mod telling;
 mod telling_more;
 mod timed;

@@ -87,6 +87,11 @@ fn site_of<'a>(
     }
 }
 
+/// Whether the words ask for the time in front of each line of the log.
+pub(crate) fn shows_time(matches: &ArgMatches<'_>) -> bool {
+    matches.get_flag("log-time")
+}
+
 // Does what the subcommand's words say, with this standard input.
 fn run_with<
     W: Files<File = File> + Net + Wait + Threads + Clock + AllocGlobal + Log + Sync,
@@ -110,8 +115,12 @@ where
     }
 }
 
-/// Does what the subcommand's words say.
-pub fn run_and_log<R: Host>(rt: &R, matches: &ArgMatches<'_>) -> Result<(), RunningFault> {
-    let timed = Timed::new(rt, matches.get_flag("log-time"));
+/// Does what the subcommand's words say. The log goes to this standard error.
+pub fn run_and_log<R: Host, E: Eprint + Sync>(
+    rt: &R,
+    to: &E,
+    matches: &ArgMatches<'_>,
+) -> Result<(), RunningFault> {
+    let timed = Timed::new(rt, to, shows_time(matches));
     run_with(&timed, matches, rt.reader())
 }

@@ -1,5 +1,5 @@
-//! A runtime whose log has the time in front of each line.
-use jiff::Timestamp;
+//! A runtime whose log goes elsewhere, with the time in front of each line.
+use crate::stamped::{Stamped, moment};
 use log::kv::Source;
 use log::span::Spans;
 use log::{Line, Log, Metadata, Record};
@@ -13,39 +13,33 @@ use std::sync::Wait;
 use std::thread::Threads;
 use std::time::{Clock, Duration};
 
-/// A runtime over another one. Where that is asked for, in front of each line of its log stands the moment of it, in UTC
-/// and to the millisecond, as RFC 3339 has it; where the clock can't be read, the line stands alone.
+/// A runtime over another one, whose log goes to another standard error. Where that is asked for, in front of each line
+/// stands the moment of it, in UTC and to the millisecond, as RFC 3339 has it; where the clock can't be read, the line
+/// stands alone.
 #[derive(Drop)]
-pub struct Timed<'a, R> {
+pub struct Timed<'a, R, E> {
     rt: &'a R,
+    to: &'a E,
     shows_time: bool,
 }
 
-impl<'a, R> Timed<'a, R> {
-    /// What it passes on, it passes on to this runtime.
-    pub fn new(rt: &'a R, shows_time: bool) -> Timed<'a, R> {
-        Timed { rt, shows_time }
+impl<'a, R, E> Timed<'a, R, E> {
+    /// Its log goes to the second; what else it passes on, to the first.
+    pub fn new(rt: &'a R, to: &'a E, shows_time: bool) -> Timed<'a, R, E> {
+        Timed { rt, to, shows_time }
     }
 }
 
-impl<R: Log + Eprint + Clock> Log for Timed<'_, R> {
+impl<R: Log + Clock, E: Eprint> Log for Timed<'_, R, E> {
     fn enabled(&self, metadata: &Metadata<'_>) -> bool {
         self.rt.enabled(metadata)
     }
 
     fn log<D: Display, K: Source, S: Spans>(&self, record: &Record<'_, D, K, S>) {
-        if !self.shows_time {
-            return self.rt.log(record);
-        }
-        if !self.rt.enabled(record.metadata()) {
-            return;
-        }
-        match Timestamp::now(self.rt) {
-            Ok(time) => {
-                let line = Line::new(record);
-                let _ = eprintln!(self.rt; "{time:.3} {line}");
-            }
-            Err(_) => self.rt.log(record),
+        if self.rt.enabled(record.metadata()) {
+            let moment = moment(self.rt, self.shows_time);
+            let line = Line::new(record);
+            let _ = eprintln!(self.to; "{}", Stamped { moment, line });
         }
     }
 
@@ -58,11 +52,11 @@ impl<R: Log + Eprint + Clock> Log for Timed<'_, R> {
     }
 }
 
-impl<R: Wait> Wait for Timed<'_, R> {}
+impl<R: Wait, E> Wait for Timed<'_, R, E> {}
 
-impl<R: Threads> Threads for Timed<'_, R> {}
+impl<R: Threads, E> Threads for Timed<'_, R, E> {}
 
-impl<R: Alloc> Alloc for Timed<'_, R> {
+impl<R: Alloc, E> Alloc for Timed<'_, R, E> {
     type A = R::A;
 
     fn alloc(&self) -> R::A {
@@ -70,7 +64,7 @@ impl<R: Alloc> Alloc for Timed<'_, R> {
     }
 }
 
-impl<R: Clock> Clock for Timed<'_, R> {
+impl<R: Clock, E> Clock for Timed<'_, R, E> {
     fn monotonic(&self) -> io::Result<Duration> {
         self.rt.monotonic()
     }
@@ -84,7 +78,7 @@ impl<R: Clock> Clock for Timed<'_, R> {
     }
 }
 
-impl<R: Net> Net for Timed<'_, R> {
+impl<R: Net, E> Net for Timed<'_, R, E> {
     type Stream = R::Stream;
 
     type Listener = R::Listener;
@@ -102,7 +96,7 @@ impl<R: Net> Net for Timed<'_, R> {
     }
 }
 
-impl<R: Files> Files for Timed<'_, R> {
+impl<R: Files, E> Files for Timed<'_, R, E> {
     type File = R::File;
 
     type Dir = R::Dir;

@@ -237,7 +237,7 @@ fn a_fault_is_told(rt: HostRuntime) {
 fn fault_of<R: Abort + Host>(rt: &R, words: &[&str]) -> RunningFault {
     let matches = matches_of(rt, words);
     let run = matches.subcommand_matches("run");
-    let served = run_and_log(rt, run.expect(rt, "the words of a run"));
+    let served = run_and_log(rt, rt, run.expect(rt, "the words of a run"));
     drop(matches);
     served.expect_err(rt, "a fault")
 }
