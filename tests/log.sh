@@ -307,7 +307,7 @@ run = Run("--log-stations", "conf", under=FAILING)
 run.ask(frame(AUTHENTICATION, "aa"), 1)
 run.send(frame(ASSOCIATION, "aa"), 1)
 run.wait_for("device fault")
-if not run.ask(b"STATUS", 0).startswith(b"state=ENABLED\n") or run.ask(b"DENY_ACL CLEAR", 0) != b"FAIL\n":
+if not run.ask(b"STATUS", 0).startswith(b"state=DISABLED\n") or run.ask(b"DENY_ACL CLEAR", 0) != b"FAIL\n":
     die("a device fault: it doesn't go on")
 run.wait_for("store: sync: ")
 run.end()
