@@ -327,9 +327,9 @@ except subprocess.TimeoutExpired:
 run.wants("--end-at-fault", [SERVES + "0", FAULT, FAILED, "[INFO  apd] entries 2", "apd: device fault"], 1,
           key=lambda line: line == FAILED)
 
-# Where a thread can't be had, one for what is watched and one for each worker, it never says that it serves.
+# Where a thread can't be had, one for the log, one for what is watched and one for each worker, it never says that it serves.
 new_store()
-for made in range(1, 6):
+for made in range(1, 7):
     words = ["strace", "-f", "-qq", "-o", "/dev/null", "-e", f"inject=clone3,clone:error=EAGAIN:when={made}", program,
              "run", "--store", "store", "--port", str(port), "conf"]
     done = subprocess.run(words, stdin=subprocess.DEVNULL, capture_output=True, timeout=20, text=True)
