@@ -59,17 +59,25 @@ station 02:00:00:00:00:aa associated 1
 accept 02:00:00:00:00:cc
 deny 02:00:00:00:00:dd" 0
 
-# Each of a hundred starts right behind the beginning of a check is served, and so is each check.
+# Each of a hundred starts right behind the beginning of a check is served, and so is each check. (A start waits for two
+# seconds. Where a check had the store for as long, as on a machine that is busy with much else, it says nothing.)
 printf 'interface=wlan0\nbssid=02:00:00:00:00:01\nssid=net\n' >conf
-run=1
-while [ "$run" -le 100 ]; do
-    "$program" check store >/dev/null &
-    "$program" run --store store --port "$port" conf </dev/null 2>found || {
-        echo "start $run behind a check:"
-        cat found
-        exit 1
-    }
-    wait $!
-    run=$((run + 1))
+served=0
+slow=0
+while [ "$served" -lt 100 ]; do
+    began=$(date +%s%N)
+    { "$program" check store >/dev/null && date +%s%N >ended; } &
+    if "$program" run --store store --port "$port" conf </dev/null 2>found; then
+        wait $!
+        served=$((served + 1))
+    else
+        wait $!
+        slow=$((slow + 1))
+        if [ "$slow" -gt 20 ] || [ "$(($(cat ended) - began))" -lt 1800000000 ]; then
+            echo "start $((served + 1)) behind a check:"
+            cat found
+            exit 1
+        fi
+    fi
 done
 echo "100 starts behind a check"
