@@ -3,9 +3,10 @@ ghost use Rattle.std.specs.Prelude.{◌≡◌, ◌≢◌, [], Some, Err, IfOk, I
 ghost use Rattle.std.specs.Option.{ForSome, option_map};
 
 use crate::port::{Port, PortFault};
-use crate::replies::GivenReplies;
 use crate::senders::Senders;
+use apd_base::Sequence;
 use apd_radio::{Datagrams, RadioFault, SocketFault};
+use apd_udp::GhostList;
 use std::alloc::Global;
 use std::net::{IpAddr, Ipv4Addr, Net, SocketAddr};
 use std::os::fd::RawFd;
@@ -32,7 +33,7 @@ pub struct ControlPort {
     received: Option<(SocketAddr, Vec<u8>)>,
     // Where its own datagrams come from.
     own: SocketAddr,
-    replies: GivenReplies,
+    replies: GhostList<(u64, Sequence<u8>)>,
     ghost one: { IsSome received → IsNone datagrams },
     ghost foreign: { ForSome received (λ command. command.0 ≢ own) },
 }
@@ -46,14 +47,14 @@ impl ControlPort {
     /// Errors: `NoSocket` where the port can't be had, `NoMemory` where memory runs out.
     pub fn open<R: Net>(rt: &R, alloc: Global, port: u16) -> Result<ControlPort, SocketFault>
         ensures own { IfOk result (λ opened. IsLocal opened.own port) }
-        ensures replies { IfOk result (λ opened. opened.replies.replies ≡ []) }
+        ensures replies { IfOk result (λ opened. opened.replies.items ≡ []) }
     {
         Ok(ControlPort {
             datagrams: Datagrams::bind(rt, alloc, port)?,
             senders: Senders::new(alloc),
             received: None,
             own: SocketAddr::new(IpAddr::V4(Ipv4Addr::new(127, 0, 0, 1)), port),
-            replies: GivenReplies::new(),
+            replies: GhostList::new(),
         })
     }
 
@@ -104,7 +105,7 @@ impl Port for ControlPort {
     ghost use Rattle.apd_control_port.specs.Commands.{waiting_datagram};
     ghost use Rattle.apd_control_port.specs.Tags.{Adds, AreSame, Forgets};
 
-    ghost replied = { λ port. Some port.replies.replies };
+    ghost replied = { λ port. Some port.replies.items };
 
     /// A command that was received and meets want of memory stays: a later call gives it.
     fn poll(&mut self) -> Result<Option<(u64, Vec<u8>)>, PortFault>
@@ -145,13 +146,13 @@ impl Port for ControlPort {
         ensures forgotten { Forgets self.old.senders tag self.new.senders }
         ensures waits { waiting_datagram self.new ≡ waiting_datagram self.old }
         ensures replied { OnOk result
-            (self.new.replies.replies ≡ self.old.replies.replies ++ (tag, text.now) ∷ []) }
+            (self.new.replies.items ≡ self.old.replies.items ++ (tag, text.now) ∷ []) }
         ensures lost { OnErr result (self.new.replies ≡ self.old.replies) }
     {
         if let Some(sender) = self.senders.take(tag) {
             self.datagrams.send(sender, text).map_err(of_socket)?;
         }
-        self.replies.note(&[tag], text);
+        self.replies.note(&(tag, text));
         Ok(())
     }
 }

@@ -3,7 +3,6 @@
 
 mod control_port;
 mod port;
-mod replies;
 mod senders;
 
 pub use control_port::ControlPort;

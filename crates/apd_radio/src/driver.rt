@@ -8,10 +8,9 @@ use crate::driver_words::{install_text, map_text, remove_text};
 use crate::heard::Heard;
 use crate::identifiers::Identifiers;
 use crate::radio::RadioFault;
-use crate::received::ReceivedDatagrams;
-use crate::sent::SentFrames;
 use crate::strangers::Strangers;
-use apd_base::Addr;
+use apd_base::{Addr, Sequence};
+use apd_udp::GhostList;
 use std::alloc::Global;
 use std::net::{Ipv4Addr, Net, SocketAddr, SocketAddrV4};
 use std::os::fd::RawFd;
@@ -28,9 +27,9 @@ pub(crate) struct Driver {
     // The number of the next word.
     number: u64,
     // The datagrams that the system took for it, in order: frames and words.
-    told: SentFrames,
+    told: GhostList<Sequence<u8>>,
     // What came in at the radio's port, of it and of others.
-    received: ReceivedDatagrams,
+    received: GhostList<(SocketAddr, Sequence<u8>)>,
     alloc: Global,
 }
 
@@ -45,8 +44,8 @@ impl Driver {
         driver: u16,
     ) -> Result<Driver, SocketFault>
         ensures at { IfOk result (λ made. IsLocal made.address driver) }
-        ensures told { IfOk result (λ made. made.told.frames ≡ []) }
-        ensures received { IfOk result (λ made. made.received.datagrams ≡ []) }
+        ensures told { IfOk result (λ made. made.told.items ≡ []) }
+        ensures received { IfOk result (λ made. made.received.items ≡ []) }
         ensures first { IfOk result (λ made. made.number ≡ FIRST) }
     {
         Ok(Driver {
@@ -54,8 +53,8 @@ impl Driver {
             address: SocketAddr::V4(SocketAddrV4::new(Ipv4Addr::LOCALHOST, driver)),
             strangers: Strangers::new(alloc)?,
             number: FIRST,
-            told: SentFrames::new(),
-            received: ReceivedDatagrams::new(),
+            told: GhostList::new(),
+            received: GhostList::new(),
             alloc,
         })
     }
@@ -79,9 +78,9 @@ impl Driver {
     pub(crate) fn receive(&mut self) -> Result<Heard, RadioFault>
         ensures first { IfSome self.old.datagrams
             (λ waited. OnOk result
-            (self.new.received.datagrams ≡ self.old.received.datagrams ++ waited ∷ [])) }
+            (self.new.received.items ≡ self.old.received.items ++ waited ∷ [])) }
         ensures heard { IfOk result
-            (λ heard. HearsNext self.old.address self.old.received.datagrams heard self.new.received.datagrams) }
+            (λ heard. HearsNext self.old.address self.old.received.items heard self.new.received.items) }
         ensures unheard { OnErr result (self.new.received ≡ self.old.received) }
         ensures kept { IsSome self.old.datagrams → OnErr result (self.new.datagrams ≡ self.old.datagrams) }
         ensures memory { result ≡ Err RadioFault.NoMemory → IsSome self.new.datagrams }
@@ -91,7 +90,7 @@ impl Driver {
         let Some((sender, bytes)) = self.datagrams.receive()? else {
             return Ok(Heard::Nothing);
         };
-        self.received.note(&[sender], bytes.as_slice());
+        self.received.note(&(sender, bytes.as_slice()));
         let heard = Heard::of(self.address, sender, bytes);
         if let Heard::Stranger = heard {
             self.strangers.pass_over();
@@ -103,13 +102,13 @@ impl Driver {
     ///
     /// Errors: `Device`: the system did not take it.
     pub(crate) fn send(&mut self, datagram: &[u8]) -> Result<(), RadioFault>
-        ensures told { OnOk result (self.new.told.frames ≡ self.old.told.frames ++ datagram.now ∷ []) }
+        ensures told { OnOk result (self.new.told.items ≡ self.old.told.items ++ datagram.now ∷ []) }
         ensures untold { OnErr result (self.new.told ≡ self.old.told) }
         ensures same { self.new ≡ record self.old { told = self.new.told } }
         ensures fault { OnErr result (result ≡ Err RadioFault.Device) }
     {
         self.datagrams.send(self.address, datagram)?;
-        self.told.note(datagram);
+        self.told.note(&datagram);
         Ok(())
     }
 
@@ -117,7 +116,7 @@ impl Driver {
     // take this one.
     fn say(&mut self, word: &[u8]) -> Result<(), RadioFault>
         ensures said { OnOk result
-            (IsSaid word.now self.old.number self.old.told.frames self.new.number self.new.told.frames) }
+            (IsSaid word.now self.old.number self.old.told.items self.new.number self.new.told.items) }
         ensures unsaid { OnErr result (self.new.told ≡ self.old.told) }
         ensures number { self.new.number ≡ next_number self.old.number }
         ensures same { self.new ≡ record self.old { told = self.new.told; number = self.new.number } }
@@ -131,8 +130,8 @@ impl Driver {
     /// Errors: `Device` or `NoMemory`: it was not told.
     pub(crate) fn tell_install(&mut self, addr: Addr, aid: u16) -> Result<(), RadioFault>
         ensures said { OnOk result
-            (IsSaid (install_text self.old.number addr aid) self.old.number self.old.told.frames self.new.number
-            self.new.told.frames) }
+            (IsSaid (install_text self.old.number addr aid) self.old.number self.old.told.items self.new.number
+            self.new.told.items) }
         ensures unsaid { OnErr result (self.new.told ≡ self.old.told) }
         ensures same { self.new ≡ record self.old { told = self.new.told; number = self.new.number } }
     {
@@ -145,8 +144,8 @@ impl Driver {
     /// Errors: `Device` or `NoMemory`: it was not told.
     pub(crate) fn tell_remove(&mut self, addr: Addr) -> Result<(), RadioFault>
         ensures said { OnOk result
-            (IsSaid (remove_text self.old.number addr) self.old.number self.old.told.frames self.new.number
-            self.new.told.frames) }
+            (IsSaid (remove_text self.old.number addr) self.old.number self.old.told.items self.new.number
+            self.new.told.items) }
         ensures unsaid { OnErr result (self.new.told ≡ self.old.told) }
         ensures same { self.new ≡ record self.old { told = self.new.told; number = self.new.number } }
     {
@@ -159,8 +158,8 @@ impl Driver {
     /// Errors: `Device` or `NoMemory`: it was not told.
     pub(crate) fn tell_map(&mut self, stations: &Identifiers) -> Result<(), RadioFault>
         ensures said { OnOk result
-            (IsSaid (map_text self.old.number (map.entries stations.now)) self.old.number self.old.told.frames
-            self.new.number self.new.told.frames) }
+            (IsSaid (map_text self.old.number (map.entries stations.now)) self.old.number self.old.told.items
+            self.new.number self.new.told.items) }
         ensures unsaid { OnErr result (self.new.told ≡ self.old.told) }
         ensures same { self.new ≡ record self.old { told = self.new.told; number = self.new.number } }
     {

@@ -14,9 +14,9 @@ use crate::driver_words::{fault_number, is_up, is_word};
 use crate::heard::Heard;
 use crate::identifiers::Identifiers;
 use crate::radio::{Radio, RadioFault};
-use crate::sent::SentFrames;
 use crate::strangers::Strangers;
-use apd_base::Addr;
+use apd_base::{Addr, Sequence};
+use apd_udp::GhostList;
 use std::alloc::Global;
 use std::net::Net;
 use std::os::fd::RawFd;
@@ -51,7 +51,7 @@ pub struct DriverRadio {
     // Whether the driver said that it failed, and no call answered so yet.
     failed: bool,
     failures: u64,
-    sent: SentFrames,
+    sent: GhostList<Sequence<u8>>,
 }
 
 impl DriverRadio {
@@ -67,12 +67,12 @@ impl DriverRadio {
     ) -> Result<DriverRadio, SocketFault>
         ensures stations { IfOk result (λ radio. radio.stations ≡ map.empty) }
         ensures failures { IfOk result (λ radio. radio.failures ≡ 0) }
-        ensures sent { IfOk result (λ radio. radio.sent.frames ≡ []) }
-        ensures told { IfOk result (λ radio. radio.driver.told.frames ≡ []) }
+        ensures sent { IfOk result (λ radio. radio.sent.items ≡ []) }
+        ensures told { IfOk result (λ radio. radio.driver.told.items ≡ []) }
         ensures due { IfOk result (λ radio. radio.due ≡ true) }
         ensures failed { IfOk result (λ radio. radio.failed ≡ false) }
         ensures at { IfOk result (λ radio. IsLocal radio.driver.address driver) }
-        ensures received { IfOk result (λ radio. radio.driver.received.datagrams ≡ []) }
+        ensures received { IfOk result (λ radio. radio.driver.received.items ≡ []) }
         ensures first { IfOk result (λ radio. radio.driver.number ≡ 1) }
     {
         Ok(DriverRadio {
@@ -81,7 +81,7 @@ impl DriverRadio {
             due: true,
             failed: false,
             failures: 0,
-            sent: SentFrames::new(),
+            sent: GhostList::new(),
         })
     }
 
@@ -109,17 +109,17 @@ impl DriverRadio {
 impl DriverRadio {
     // What of the driver is heard next; a word is heeded.
     fn hear(&mut self) -> Result<Heard, RadioFault>
-        ensures heard { IfOk result (λ heard. HearsNext self.old.driver.address self.old.driver.received.datagrams heard
-            self.new.driver.received.datagrams) }
+        ensures heard { IfOk result (λ heard. HearsNext self.old.driver.address self.old.driver.received.items heard
+            self.new.driver.received.items) }
         ensures first { IfSome self.old.driver.datagrams
             (λ waited. OnOk result
-            (self.new.driver.received.datagrams ≡ self.old.driver.received.datagrams ++ waited ∷ [])) }
+            (self.new.driver.received.items ≡ self.old.driver.received.items ++ waited ∷ [])) }
         ensures unheard { OnErr result (self.new.driver.received ≡ self.old.driver.received) }
         ensures kept { IsSome self.old.driver.datagrams
             → OnErr result (self.new.driver.datagrams ≡ self.old.driver.datagrams) }
         ensures memory { result ≡ Err RadioFault.NoMemory → IsSome self.new.driver.datagrams }
-        ensures heeds { Heeds self.old.driver.address self.old.driver.received.datagrams
-            self.new.driver.received.datagrams self.old.due self.old.failed self.new.due self.new.failed }
+        ensures heeds { Heeds self.old.driver.address self.old.driver.received.items
+            self.new.driver.received.items self.old.due self.old.failed self.new.due self.new.failed }
         ensures driver { self.new.driver ≡ record self.old.driver {
           datagrams = self.new.driver.datagrams;
           received = self.new.driver.received;
@@ -136,15 +136,15 @@ impl DriverRadio {
 
     // The driver's next frame, if one waits; its words in front are heeded. Without one the driver's port may have more.
     fn listen(&mut self) -> Result<Option<Vec<u8>>, RadioFault>
-        ensures gives { IfOk result (λ got. Gives self.old.driver.address self.old.driver.received.datagrams
-            (option_map (λ frame. frame.items) got) self.new.driver.received.datagrams) }
-        ensures passes { OnErr result (PassesOver self.old.driver.address self.old.driver.received.datagrams
-            self.new.driver.received.datagrams) }
-        ensures waits { WaitsOrCame self.old.driver.datagrams self.old.driver.received.datagrams
-            self.new.driver.datagrams self.new.driver.received.datagrams }
+        ensures gives { IfOk result (λ got. Gives self.old.driver.address self.old.driver.received.items
+            (option_map (λ frame. frame.items) got) self.new.driver.received.items) }
+        ensures passes { OnErr result (PassesOver self.old.driver.address self.old.driver.received.items
+            self.new.driver.received.items) }
+        ensures waits { WaitsOrCame self.old.driver.datagrams self.old.driver.received.items
+            self.new.driver.datagrams self.new.driver.received.items }
         ensures memory { result ≡ Err RadioFault.NoMemory → IsSome self.new.driver.datagrams }
-        ensures heeds { Heeds self.old.driver.address self.old.driver.received.datagrams
-            self.new.driver.received.datagrams self.old.due self.old.failed self.new.due self.new.failed }
+        ensures heeds { Heeds self.old.driver.address self.old.driver.received.items
+            self.new.driver.received.items self.old.due self.old.failed self.new.due self.new.failed }
         ensures driver { self.new.driver ≡ record self.old.driver {
           datagrams = self.new.driver.datagrams;
           received = self.new.driver.received;
@@ -170,12 +170,12 @@ impl DriverRadio {
     //
     // Errors: `Device` or `NoMemory`, and it stays due.
     fn tell_due(&mut self) -> Result<(), RadioFault>
-        ensures told { OnOk result (self.new.driver.told.frames
-            ≡ self.old.driver.told.frames ++ words_due self.old.due self.old.stations self.old.driver.number) }
+        ensures told { OnOk result (self.new.driver.told.items
+            ≡ self.old.driver.told.items ++ words_due self.old.due self.old.stations self.old.driver.number) }
         ensures done { OnOk result (self.new.due ≡ false) }
         ensures due { OnErr result (self.new.due ≡ true) }
         ensures map { IsToldMap self.old.due (map_text self.old.driver.number (map.entries self.old.stations))
-            self.old.driver.told.frames self.new.due self.new.driver.told.frames }
+            self.old.driver.told.items self.new.due self.new.driver.told.items }
         ensures driver { self.new.driver
             ≡ record self.old.driver { told = self.new.driver.told; number = self.new.driver.number } }
         ensures same { self.new ≡ record self.old { driver = self.new.driver; due = self.new.due } }
@@ -210,7 +210,7 @@ impl Radio for DriverRadio {
     ghost model = { record {
       stations = λ radio. radio.stations;
       faults = λ radio. radio.failures;
-      sent = λ radio. Some radio.sent.frames;
+      sent = λ radio. Some radio.sent.items;
     } };
 
     fn poll(&mut self) -> Result<Option<Vec<u8>>, RadioFault>
@@ -220,18 +220,18 @@ impl Radio for DriverRadio {
         ensures device { result ≡ Err RadioFault.Device → HasRisen self.old.failures self.new.failures }
         ensures count { self.old.failures ≤ self.new.failures }
         ensures sent { self.new.sent ≡ self.old.sent }
-        ensures gives { IfOk result (λ got. Gives self.old.driver.address self.old.driver.received.datagrams
-            (option_map (λ frame. frame.items) got) self.new.driver.received.datagrams) }
-        ensures passes { OnErr result (PassesOver self.old.driver.address self.old.driver.received.datagrams
-            self.new.driver.received.datagrams) }
-        ensures waits { WaitsOrCame self.old.driver.datagrams self.old.driver.received.datagrams
-            self.new.driver.datagrams self.new.driver.received.datagrams }
+        ensures gives { IfOk result (λ got. Gives self.old.driver.address self.old.driver.received.items
+            (option_map (λ frame. frame.items) got) self.new.driver.received.items) }
+        ensures passes { OnErr result (PassesOver self.old.driver.address self.old.driver.received.items
+            self.new.driver.received.items) }
+        ensures waits { WaitsOrCame self.old.driver.datagrams self.old.driver.received.items
+            self.new.driver.datagrams self.new.driver.received.items }
         ensures waiting { result ≡ Err RadioFault.NoMemory → IsSome self.new.driver.datagrams }
         ensures heeds { (due : Bool)
-            × Heeds self.old.driver.address self.old.driver.received.datagrams self.new.driver.received.datagrams
+            × Heeds self.old.driver.address self.old.driver.received.items self.new.driver.received.items
             self.old.due self.old.failed due self.new.failed
             × IsToldMap due (map_text self.old.driver.number (map.entries self.old.stations))
-            self.old.driver.told.frames self.new.due self.new.driver.told.frames }
+            self.old.driver.told.items self.new.due self.new.driver.told.items }
         ensures driver { self.new.driver.address ≡ self.old.driver.address }
     {
         let answer = self.listen();
@@ -251,8 +251,8 @@ impl Radio for DriverRadio {
         ensures device { result ≡ Err RadioFault.Device → HasRisen self.old.failures self.new.failures }
         ensures count { self.old.failures ≤ self.new.failures }
         ensures sent { self.new.sent ≡ self.old.sent }
-        ensures told { OnOk result (IsTold (install_text self.old.driver.number addr aid) self.old.driver.told.frames
-            self.new.due self.new.driver.told.frames) }
+        ensures told { OnOk result (IsTold (install_text self.old.driver.number addr aid) self.old.driver.told.items
+            self.new.due self.new.driver.told.items) }
         ensures due { self.old.due ≡ true → self.new.due ≡ true }
         ensures failed { (result ≡ Err RadioFault.Device) ↔ (self.old.failed ≡ true) }
         ensures answered { self.new.failed ≡ false }
@@ -278,8 +278,8 @@ impl Radio for DriverRadio {
         ensures device { result ≡ Err RadioFault.Device → HasRisen self.old.failures self.new.failures }
         ensures count { self.old.failures ≤ self.new.failures }
         ensures sent { self.new.sent ≡ self.old.sent }
-        ensures told { OnOk result (IsTold (remove_text self.old.driver.number addr) self.old.driver.told.frames
-            self.new.due self.new.driver.told.frames) }
+        ensures told { OnOk result (IsTold (remove_text self.old.driver.number addr) self.old.driver.told.items
+            self.new.due self.new.driver.told.items) }
         ensures due { self.old.due ≡ true → self.new.due ≡ true }
         ensures failed { (result ≡ Err RadioFault.Device) ↔ (self.old.failed ≡ true) }
         ensures answered { self.new.failed ≡ false }
@@ -303,13 +303,13 @@ impl Radio for DriverRadio {
         ensures memory { result ≡ Err RadioFault.NoMemory → self.new.failures ≡ self.old.failures }
         ensures device { result ≡ Err RadioFault.Device → HasRisen self.old.failures self.new.failures }
         ensures count { self.old.failures ≤ self.new.failures }
-        ensures sent { OnOk result (self.new.sent.frames ≡ self.old.sent.frames ++ frame.now ∷ []) }
+        ensures sent { OnOk result (self.new.sent.items ≡ self.old.sent.items ++ frame.now ∷ []) }
         ensures unsent { OnErr result (self.new.sent ≡ self.old.sent) }
-        ensures told { OnOk result (self.new.driver.told.frames ≡ (self.old.driver.told.frames
+        ensures told { OnOk result (self.new.driver.told.items ≡ (self.old.driver.told.items
             ++ words_due self.old.due self.old.stations self.old.driver.number) ++ frame.now ∷ []) }
         ensures map { OnErr result (IsToldMap self.old.due
-            (map_text self.old.driver.number (map.entries self.old.stations)) self.old.driver.told.frames
-            self.new.due self.new.driver.told.frames) }
+            (map_text self.old.driver.number (map.entries self.old.stations)) self.old.driver.told.items
+            self.new.due self.new.driver.told.items) }
         ensures done { OnOk result (self.new.due ≡ false) }
         ensures failed { self.new.failed ≡ self.old.failed }
         ensures unheard { (self.new.driver.received ≡ self.old.driver.received)
@@ -320,7 +320,7 @@ impl Radio for DriverRadio {
         count_fault(&mut self.failures, told)?;
         let answer = self.driver.send(frame);
         count_fault(&mut self.failures, answer)?;
-        self.sent.note(frame);
+        self.sent.note(&frame);
         Ok(())
     }
 

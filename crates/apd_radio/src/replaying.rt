@@ -7,8 +7,8 @@ ghost use Rattle.apd_radio.specs.Recordings.{Replays, IsFault, frames_in};
 use crate::call::Call;
 use crate::identifiers::Identifiers;
 use crate::radio::{Radio, RadioFault};
-use crate::sent::SentFrames;
 use apd_base::{Addr, Sequence};
+use apd_udp::GhostList;
 use std::alloc::{AllocError, Global};
 use std::collections::VecDeque;
 use thiserror::Error;
@@ -38,7 +38,7 @@ impl From<AllocError> for ReplayFault {
 pub struct Replaying {
     frames: VecDeque<Sequence<u8>>,
     stations: Identifiers,
-    sent: SentFrames,
+    sent: GhostList<Sequence<u8>>,
 }
 
 fn end_of_line(text: &[u8]) -> Option<usize>
@@ -80,7 +80,7 @@ impl Replaying {
     pub fn new(alloc: Global, recording: &[u8]) -> Result<Replaying, ReplayFault>
         ensures frames { IfOk result (λ radio. Replays recording.now radio.frames.items) }
         ensures stations { IfOk result (λ radio. radio.stations ≡ map.empty) }
-        ensures sent { IfOk result (λ radio. radio.sent.frames ≡ []) }
+        ensures sent { IfOk result (λ radio. radio.sent.items ≡ []) }
         ensures fault { IfErr result (λ fault. IsFault fault (lines recording.now)) }
     {
         let mut frames = VecDeque::new(alloc);
@@ -97,7 +97,7 @@ impl Replaying {
         Ok(Replaying {
             frames,
             stations: Identifiers::new(alloc),
-            sent: SentFrames::new(),
+            sent: GhostList::new(),
         })
     }
 }
@@ -119,7 +119,7 @@ impl Radio for Replaying {
     ghost model = { record {
       stations = λ radio. radio.stations;
       faults = λ _. 0;
-      sent = λ radio. Some radio.sent.frames;
+      sent = λ radio. Some radio.sent.items;
     } };
 
     ghost frames = { λ radio. Some radio.frames.items };
@@ -141,7 +141,7 @@ impl Radio for Replaying {
     }
 
     fn transmit(&mut self, frame: &[u8]) -> Result<(), RadioFault> {
-        self.sent.note(frame);
+        self.sent.note(&frame);
         Ok(())
     }
 

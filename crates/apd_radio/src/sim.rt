@@ -4,25 +4,25 @@ ghost use Rattle.std.specs.FinMap as map;
 
 use crate::identifiers::Identifiers;
 use crate::radio::{Radio, RadioFault};
-use crate::sent::SentFrames;
-use apd_base::Addr;
+use apd_base::{Addr, Sequence};
+use apd_udp::GhostList;
 use std::alloc::Global;
 
 /// A radio that receives nothing and sends nothing.
 pub struct Sim {
     stations: Identifiers,
-    sent: SentFrames,
+    sent: GhostList<Sequence<u8>>,
 }
 
 impl Sim {
     /// A radio without stations. It takes no memory.
     pub fn new(alloc: Global) -> Sim
         ensures stations { result.stations ≡ map.empty }
-        ensures sent { result.sent.frames ≡ [] }
+        ensures sent { result.sent.items ≡ [] }
     {
         Sim {
             stations: Identifiers::new(alloc),
-            sent: SentFrames::new(),
+            sent: GhostList::new(),
         }
     }
 }
@@ -43,7 +43,7 @@ impl Radio for Sim {
     ghost model = { record {
       stations = λ radio. radio.stations;
       faults = λ _. 0;
-      sent = λ radio. Some radio.sent.frames;
+      sent = λ radio. Some radio.sent.items;
     } };
 
     ghost frames = { λ _. Some [] };
@@ -62,7 +62,7 @@ impl Radio for Sim {
     }
 
     fn transmit(&mut self, frame: &[u8]) -> Result<(), RadioFault> {
-        self.sent.note(frame);
+        self.sent.note(&frame);
         Ok(())
     }
 

@@ -6,8 +6,8 @@ use crate::counting::count_fault;
 use crate::datagrams::{Datagrams, SocketFault};
 use crate::identifiers::Identifiers;
 use crate::radio::{Radio, RadioFault};
-use crate::sent::SentFrames;
-use apd_base::Addr;
+use apd_base::{Addr, Sequence};
+use apd_udp::GhostList;
 use std::alloc::Global;
 use std::net::{Net, SocketAddr};
 use std::os::fd::RawFd;
@@ -28,7 +28,7 @@ pub struct UdpSim {
     peer: Option<SocketAddr>,
     stations: Identifiers,
     failures: u64,
-    sent: SentFrames,
+    sent: GhostList<Sequence<u8>>,
 }
 
 impl UdpSim {
@@ -38,14 +38,14 @@ impl UdpSim {
     pub fn new<R: Net>(rt: &R, alloc: Global, port: u16) -> Result<UdpSim, SocketFault>
         ensures stations { IfOk result (λ radio. radio.stations ≡ map.empty) }
         ensures failures { IfOk result (λ radio. radio.failures ≡ 0) }
-        ensures sent { IfOk result (λ radio. radio.sent.frames ≡ []) }
+        ensures sent { IfOk result (λ radio. radio.sent.items ≡ []) }
     {
         Ok(UdpSim {
             datagrams: Datagrams::bind(rt, alloc, port)?,
             peer: None,
             stations: Identifiers::new(alloc),
             failures: 0,
-            sent: SentFrames::new(),
+            sent: GhostList::new(),
         })
     }
 }
@@ -69,7 +69,7 @@ impl Radio for UdpSim {
     ghost model = { record {
       stations = λ radio. radio.stations;
       faults = λ radio. radio.failures;
-      sent = λ radio. Some radio.sent.frames;
+      sent = λ radio. Some radio.sent.items;
     } };
 
     fn poll(&mut self) -> Result<Option<Vec<u8>>, RadioFault> {
@@ -99,7 +99,7 @@ impl Radio for UdpSim {
             let answer = self.datagrams.send(peer, frame);
             count_fault(&mut self.failures, answer)?;
         }
-        self.sent.note(frame);
+        self.sent.note(&frame);
         Ok(())
     }
 

@@ -7,7 +7,7 @@ use Rattle.apd_radio.proofs.driver_radio.DriverRadio.hear.Goals.{in-Datagram, in
 pub returns-clause-heeds : goal.returns-clause-heeds
 returns-clause-heeds c = elim c.match-heard.branch [
   | in-Datagram w ↦
-      let now : w.heed.new.self.driver.received.datagrams ≡ c.receive.new.self.received.datagrams = ap (λ r. r.driver.received.datagrams) w.heed.ensures.same in
+      let now : w.heed.new.self.driver.received.items ≡ c.receive.new.self.received.items = ap (λ r. r.driver.received.items) w.heed.ensures.same in
       let up : (w.heed.new.self.due ≡ true) ↔ ((c.args.self.now.due ≡ true) ⊎ IsUp w.in-Datagram.bytes.items) =
       subst (λ b. (w.heed.new.self.due ≡ true) ↔ ((c.args.self.now.due ≡ true) ⊎ IsUp b)) w.as_slice.ensures.value w.heed.ensures.up in
       let fault : (w.heed.new.self.failed ≡ true) ↔ ((c.args.self.now.failed ≡ true) ⊎ IsFault w.in-Datagram.bytes.items) =

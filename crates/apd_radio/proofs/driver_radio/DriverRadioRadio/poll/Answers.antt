@@ -10,8 +10,8 @@ returns-clause-heeds c =
     let now = c.tell_due-told.new.self in (
       heard.due,
       rw (ap (λ d. d.received) c.tell_due-told.ensures.driver) (rw (ap (λ r. r.failed) c.tell_due-told.ensures.same) c.listen-answer.ensures.heeds),
-      subst (λ told. IsToldMap heard.due (map_text first.driver.number (map.entries first.stations)) told now.due now.driver.told.frames) (ap (λ d. d.told.frames) c.listen-answer.ensures.driver)
-          (subst (λ stations. IsToldMap heard.due (map_text first.driver.number (map.entries stations)) heard.driver.told.frames now.due now.driver.told.frames) (ap (λ r. r.stations) c.listen-answer.ensures.same)
-          (subst (λ number. IsToldMap heard.due (map_text number (map.entries heard.stations)) heard.driver.told.frames now.due now.driver.told.frames) (ap (λ d. d.number) c.listen-answer.ensures.driver)
+      subst (λ told. IsToldMap heard.due (map_text first.driver.number (map.entries first.stations)) told now.due now.driver.told.items) (ap (λ d. d.told.items) c.listen-answer.ensures.driver)
+          (subst (λ stations. IsToldMap heard.due (map_text first.driver.number (map.entries stations)) heard.driver.told.items now.due now.driver.told.items) (ap (λ r. r.stations) c.listen-answer.ensures.same)
+          (subst (λ number. IsToldMap heard.due (map_text number (map.entries heard.stations)) heard.driver.told.items now.due now.driver.told.items) (ap (λ d. d.number) c.listen-answer.ensures.driver)
           c.tell_due-told.ensures.map)),
     )
