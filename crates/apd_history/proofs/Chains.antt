@@ -11,6 +11,10 @@ pub commits_of-append : (cs : List Call) (c : Call) → commits_of (cs ++ c ∷ 
 commits_of-append [] c = omega arith
 commits_of-append (d ∷ cs) c = omega (arith, commits_of-append cs c)
 
+pub commits_of-both : (cs ds : List Call) → commits_of (cs ++ ds) ≡ commits_of cs + commits_of ds
+commits_of-both [] ds = omega arith
+commits_of-both (c ∷ cs) ds = omega (arith, commits_of-both cs ds)
+
 pub calls_append : (first : CoreState) (cs : List Call) (c : Call) → AreCalls first cs → c.before ≡ core_at first cs
     → IsCalled c → AreCalls first (cs ++ c ∷ [])
 calls_append first [] c h e k = (e, k, tt)

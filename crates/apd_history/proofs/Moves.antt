@@ -73,6 +73,9 @@ module _ {E : Type 0} where
   pub duplicates : (by : ℕ) (v : View E) → Splits Kept by v v (view false [] v.seen)
   duplicates by v = splits by v v.seen (λ seat log fits. fits.1)
 
+  pub starts : (by : ℕ) (v : View E) → Splits Kept by v v (view false [] [])
+  starts by v = splits by v [] (λ seat log fits. prefix_none log)
+
   pub shows : (by : ℕ) (v : View E) (other : ℕ) (u : View E) → Joins Kept by v other u (view v.keeps v.all u.seen) (view false [] [])
   shows by v other u s kept at apart there =
       let w = view v.keeps v.all u.seen in

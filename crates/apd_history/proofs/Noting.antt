@@ -1,5 +1,5 @@
 -- A call that was noted.
-use Rattle.std.proofs.Common.{◌≡◌, ◌+◌, List, sym, ap, ◌∙◌}
+use Rattle.std.proofs.Common.{◌≡◌, ◌+◌, List, [], ◌∷◌, ◌++◌, sym, ap, ◌∙◌}
 use Rattle.apd_core.specs.Core.{CoreState}
 use Rattle.apd_history.specs.declared.entry.Kind.{Kind}
 use Rattle.apd_history.specs.Chain.{call_of, commits_by, commits_of, core_at, Call, IsOneMore}
@@ -12,6 +12,8 @@ module _ (kind : Kind) (before after : CoreState) (old new : List Call) (m : IsO
   pub commits_after : commits_of new ≡ commits_of old + commits_by kind
   commits_after = ap (λ (l : List Call). commits_of l) m ∙ commits_of-append old (call_of kind before after)
 
--- a core at the end of the history is what a call of it begins with
-pub follows : (first core before : CoreState) (old mid : List Call) → core ≡ core_at first old → mid ≡ old → before ≡ core → before ≡ core_at first mid
-follows first core before old mid at same is = is ∙ (at ∙ ap (λ (l : List Call). core_at first l) (sym same))
+-- the same of the same core and history
+pub one_more_of : (kind : Kind) (b before after : CoreState) (o old new : List Call) → b ≡ before → o ≡ old → IsOneMore kind b after o new
+    → IsOneMore kind before after old new
+one_more_of kind b before after o old new eb eo m =
+    m ∙ (ap (λ (l : List Call). l ++ call_of kind b after ∷ []) eo ∙ ap (λ (s : CoreState). old ++ call_of kind s after ∷ []) eb)

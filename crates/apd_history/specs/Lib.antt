@@ -1,3 +1,5 @@
+pub mod Calling
 pub mod Chain
 pub mod Names
+pub mod Opening
 pub mod Views

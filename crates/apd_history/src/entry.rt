@@ -2,12 +2,13 @@
 ghost use Rattle.std.specs.Prelude.{◌≡◌};
 
 use apd_core::Core;
+use apd_mlme::Recipient;
 use std::snapshot::Snapshot;
 
 /// Which call of the core it is.
 #[derive(Clone, Copy, Debug, PartialEq, Eq)]
 pub enum Kind {
-    /// A request is accepted, or refused.
+    /// A request is answered, and may be an entry.
     Submit,
     /// A batch is taken, to be committed.
     Take,
@@ -15,13 +16,13 @@ pub enum Kind {
     Publish,
     /// Nothing is accepted any more.
     Fail,
-    /// What is settled is handed out.
-    Hand,
+    /// What is settled is handed out to a recipient.
+    Hand(Recipient),
 }
 
 /// An entry of a history: a call of the core. A history is generic in it, since a struct is not proved to cross threads
-/// where a field's type holds a core, and is where that type is a parameter.
-pub trait Entry: Send + Drop + Sized {
+/// where a field's type holds a core, and is where that type is a parameter which does.
+pub trait Entry: Drop + Sized {
     ghost use Rattle.apd_history.specs.Chain.{call_of, Call};
 
     /// The call that it is.

@@ -2,7 +2,12 @@
 #![tactic(auto)]
 
 mod entry;
+mod keeper;
+mod naming;
+mod opened;
 mod pages;
 
 pub use entry::{Change, Entry, Kind};
-pub use pages::{Front, Keeper, Naming, Opened, Pages};
+pub use keeper::{CommitRight, Front, Keeper};
+pub use naming::{Commits, First, Naming, Seats};
+pub use opened::Opened;

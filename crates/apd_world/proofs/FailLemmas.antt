@@ -1,16 +1,13 @@
 -- A world whose core was told to fail; and the committing worker's run, as a world makes it.
-use Rattle.std.proofs.Common.{◌≡◌, true, List, [], ◌∷◌, ◌++◌, Option, Some, None, Result, Ok, Err, refl, sym, ap, subst, ◌∙◌}
+use Rattle.std.proofs.Common.{◌≡◌, true, List, [], ◌∷◌, ◌++◌, refl, sym, ap, subst, ◌∙◌}
 use Rattle.std.specs.Prelude.{map}
-use Rattle.std.specs.declared.alloc.AllocError.{AllocError}
-use Rattle.apd_core.specs.declared.publish_fault.PublishFault.{PublishFault}
 use Rattle.apd_steps.specs.Calls.{exactly}
 use Rattle.apd_steps.specs.Run as steps
 use Rattle.apd_world.specs.History.{History}
 use Rattle.apd_world.specs.StandsFor.{LeadsSafely, StandsFor, waiting_outs}
 use Rattle.apd_world.specs.WorkerRun.{AreParts, IsPart, part_of, told_called, told_published, told_taken}
-use Rattle.apd_world.proofs.Words.{AreFollowing, Call, Called, Committer, Control, CoreState, Device, DiskModel, DurableCore, IsFailed, IsSafe, Out, Publish, Radio, RadioModel, Recipient, StoreFault, Take, World, durable_of, flight_of, ready_for}
-use Rattle.apd_world.proofs.DurableSteps.{made_beside}
-use Rattle.apd_world.proofs.FromSteps.{calls, fails, publishes, same_published, same_taken, takes}
+use Rattle.apd_world.proofs.Words.{AreFollowing, Call, Committer, Control, CoreState, DiskModel, DurableCore, IsFailed, IsSafe, Out, Publish, Radio, RadioModel, Recipient, Take, World, durable_of, flight_of, ready_for}
+use Rattle.apd_world.proofs.FromSteps.{calls, fails, publishes_made, takes_made}
 use Rattle.apd_world.proofs.HistoryLemmas.{still_leads}
 use Rattle.apd_world.proofs.RunLemmas.{one_made}
 
@@ -37,15 +34,6 @@ module _ {D R : Type 0} (disk : DiskModel D) (old new : World D R) (h : IsFailed
       }))
 
 -- ---- the worker's run
-taken_not_called : (told : Result (Option (Result (Unit {0}) StoreFault)) AllocError) → told_taken told ≡ Called (Err Device) → ⊥
-taken_not_called (Ok (Some answer)) is = cc
-taken_not_called (Ok None) is = cc
-taken_not_called (Err short) is = cc
-
-published_not_called : (told : Option (Result (Unit {0}) PublishFault)) → told_published told ≡ Called (Err Device) → ⊥
-published_not_called (Some answer) is = cc
-published_not_called None is = cc
-
 module _ {D R : Type 0} (disk : DiskModel D) (radio : RadioModel R) (w : World D R) where
   abbrev with_both : CoreState → Committer D → DurableCore D
   with_both core committer = record { core = core; committer = committer }
@@ -59,9 +47,8 @@ module _ {D R : Type 0} (disk : DiskModel D) (radio : RadioModel R) (w : World D
   part_made (steps.Take given told) core after c e is first last =
       let d = with_both core c in
       let f = with_both after e in
-      let both = takes disk d f given told is in
-      one_made disk radio Take (told_taken told) (at d) (at f) (record { inside = told_taken told; durable = both.0; joins = (refl, refl) })
-      (made_beside disk (told_taken told) d f (same_taken disk d f given told is) (taken_not_called told) both.1) (first, last)
+      let both = takes_made disk d f given told is in
+      one_made disk radio Take (told_taken told) (at d) (at f) (record { inside = told_taken told; durable = both.0; joins = (refl, refl) }) both.1 (first, last)
   part_made (steps.Call told) core after c e is first last =
       let d = with_both core c in
       let f = with_both after e in
@@ -70,9 +57,8 @@ module _ {D R : Type 0} (disk : DiskModel D) (radio : RadioModel R) (w : World D
   part_made (steps.Publish receipt told) core after c e is first last =
       let d = with_both core c in
       let f = with_both after e in
-      let both = publishes disk d f receipt told is in
-      one_made disk radio Publish (told_published told) (at d) (at f) (record { inside = told_published told; durable = both.0; joins = (refl, refl) })
-      (made_beside disk (told_published told) d f (same_published disk d f receipt told is) (published_not_called told) both.1) (first, last)
+      let both = publishes_made disk d f receipt told is in
+      one_made disk radio Publish (told_published told) (at d) (at f) (record { inside = told_published told; durable = both.0; joins = (refl, refl) }) both.1 (first, last)
   part_made steps.Fail core after c e is first last =
       let both = fails disk (with_both core c) (with_both after e) is in
       record { only = λ i. at (both.0 i); safe = both.1 }

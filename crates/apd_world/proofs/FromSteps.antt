@@ -1,21 +1,22 @@
 -- From what a step does to a core and its committer, what it does to a durable core.
-use Rattle.std.proofs.Common.{◌≡◌, ℕ, Bool, true, Option, Some, None, Result, Ok, Err, inl, inr, ⊎_elim, refl, sym, ap, subst}
+use Rattle.std.proofs.Common.{◌≡◌, ℕ, Bool, true, List, Option, Some, None, Result, Ok, Err, inl, inr, ⊎_elim, refl, sym, ap, subst, ◌∙◌}
 use Rattle.std.specs.declared.alloc.AllocError.{AllocError}
 use Rattle.apd_journal.specs.declared.batch.Batch.{Batch}
 use Rattle.apd_store.specs.declared.fault.StoreFault.TheVariants as store_fault
 use Rattle.apd_core.specs.declared.publish_fault.PublishFault.{PublishFault}
+use Rattle.apd_core.specs.declared.ticket.Accepted.{Accepted as CoreAccepted}
 use Rattle.apd_flusher.specs.Committing.{IsWhole as IsCommitter}
 use Rattle.apd_flusher.specs.Outside.{flusher_device, flusher_of as flusher_in}
-use Rattle.apd_steps.specs.Calls.{TakeTells, exactly}
+use Rattle.apd_steps.specs.Calls.{CollectTells, SubmitTells, TakeTells, exactly}
 use Rattle.apd_steps.specs.Committing.{IsGivenBy}
 use Rattle.apd_steps.specs.Handing.{HandsTo}
 use Rattle.apd_steps.specs.Run as steps
-use Rattle.apd_world.proofs.Words.{Bssid, Call, Committer, CoreState, DiskModel, DurableCore, Flusher, HasRisen, IsCore, IsInStep, IsPublished, IsSafe, IsStep, IsStepMade, IsUnderWay, IsWhole, NoMemory, Nothing, Publish, Published, QueuesReady, Queued, Radio, Receipt, Slot, State, StoreFault, Take, Told, TurnTells, device_of, flight_of, flusher_of, ready_for}
+use Rattle.apd_world.proofs.Words.{Accept, Accepted, Bssid, Call, Called, Committer, CoreState, DiskModel, DurableCore, Flusher, Hand, Handed, HasRisen, Input, IsCore, IsInStep, IsPublished, IsSafe, IsStep, IsStepMade, IsUnderWay, IsWhole, Moment, NoMemory, Nothing, Out, Publish, Published, QueuesReady, Queued, Radio, Receipt, Reception, Recipient, Slot, State, StoreFault, Take, Told, TurnTells, device_of, flight_of, flusher_of, ready_for, reception_of}
 use Rattle.apd_world.specs.WorkerRun.{told_called, told_published, told_taken}
 use Rattle.apd_world.proofs.DurableSteps.{gives_whole, made_beside, made_unchanged, safe_beside, settled_whole}
 use Rattle.apd_world.proofs.Goings.{goes_unchanged}
 use Rattle.apd_world.proofs.Speaking.{called_core}
-use Rattle.apd_world.proofs.StepLemmas.{call_step, hand_step, lacking_not_called, nothing_not_called, publish_step, queued_not_called, same_called, step_unchanged, take_step, unpublished_step}
+use Rattle.apd_world.proofs.StepLemmas.{accept_request, accept_step, accepted_is, call_step, hand_step, lacking_not_called, nothing_not_called, publish_step, queued_not_called, same_called, step_unchanged, take_step, unpublished_step}
 
 module _ {D : Type 0} (disk : DiskModel D) where
   module _ (old new : DurableCore D) where
@@ -159,6 +160,53 @@ module _ {D : Type 0} (disk : DiskModel D) where
     same_published None None h = ap (λ (c : Committer D). flusher_device (flusher_in c)) h.does.2
     same_published (Some receipt) None h = absurd h.does
     same_published None (Some answer) h = absurd h.does
+
+    -- ---- made
+    taken_not_called : (told : Result (Option (Result (Unit {0}) StoreFault)) AllocError) → told_taken told ≡ Called (Err store_fault.Device) → ⊥
+    taken_not_called (Ok (Some answer)) is = cc
+    taken_not_called (Ok None) is = cc
+    taken_not_called (Err short) is = cc
+
+    published_not_called : (told : Option (Result (Unit {0}) PublishFault)) → told_published told ≡ Called (Err store_fault.Device) → ⊥
+    published_not_called (Some answer) is = cc
+    published_not_called None is = cc
+
+    pub takes_made : (given : Option Batch) (told : Result (Option (Result (Unit {0}) StoreFault)) AllocError) → Went (steps.Take given told)
+        → IsStep Take (told_taken told) old new × IsStepMade disk (told_taken told) old new
+    takes_made given told h =
+        let both = takes given told h in
+        (both.0, made_beside disk (told_taken told) old new (same_taken given told h) (taken_not_called told) both.1)
+
+    pub publishes_made : (receipt : Option Receipt) (told : Option (Result (Unit {0}) PublishFault)) → Went (steps.Publish receipt told)
+        → IsStep Publish (told_published told) old new × IsStepMade disk (told_published told) old new
+    publishes_made receipt told h =
+        let both = publishes receipt told h in
+        (both.0, made_beside disk (told_published told) old new (same_published receipt told h) (published_not_called told) both.1)
+
+  -- ---- beside the same committer
+  module _ (old : DurableCore D) (core : CoreState) (here : IsSafe disk old old) where
+    abbrev beside : DurableCore D
+    beside = record old { core = core }
+
+    -- a request is answered
+    pub accepts : (i : Input) (m : Moment) (told : Reception) (answer : CoreAccepted) → told ≡ reception_of answer → exactly (SubmitTells i m (Ok answer)) old.core core
+        → IsStep (Accept i m) (Accepted told) old beside × IsSafe disk old beside
+    accepts i m told answer is h =
+        let ok = h.1.1 in
+        let taken_in = accepted_is i m told answer old core is h.1.0 h.1.2 ok in
+        let done = accept_request old beside i m told h.0 taken_in in (
+          accept_step old beside i m told h.0 taken_in,
+          safe_beside disk old beside refl (ap (λ (s : CoreState). s.settled) ok ∙ done.settled) (ap flight_of ok ∙ done.flight) (ap (λ (s : CoreState). s.failed) ok ∙ done.failed) here,
+        )
+
+    -- a recipient is given what is ready for it
+    pub gives_out : (to : Recipient) (outs told : List Out) → told ≡ outs → exactly (CollectTells to (Ok outs)) old.core core
+        → IsStep (Hand to) (Handed told) old beside × IsSafe disk old beside
+    gives_out to outs told is h =
+        let ok = h.1.1 in (
+          hand_step old beside to told h.0 (record { outs_are = is ∙ h.1.0; only = λ i. record old { core = ok i } }),
+          safe_beside disk old beside refl (ap (λ (s : CoreState). s.settled) ok) (ap flight_of ok) (ap (λ (s : CoreState). s.failed) ok) here,
+        )
 
 -- ---- handing out
 abbrev pub told_queued : Result ℕ AllocError → Told

@@ -1,16 +1,13 @@
 -- Worlds that stand for a history: any, one that has just begun, and one whose radio was replaced.
 use Rattle.std.proofs.Common.{◌≡◌, ℕ, List, [], ◌++◌, Option, Result, refl, sym, ap, subst, ◌∙◌, arith}
-use Rattle.std.specs.Prelude.{map}
 use Rattle.std.proofs.lemmas.List.{append-nil}
 use Rattle.apd_slot.specs.Mending.{IsMended}
-use Rattle.apd_world.proofs.Words.{Bssid, Conf, Control, CoreState, DiskModel, IsCore, IsReplaced, IsSafe, Out, Radio, RadioModel, Recipient, Slot, Sound, State, World, WorldFault, durable_of, new_core, queue_of, ready_for, slot_at, slots_of, up_to}
-use Rattle.apd_core.specs.Held.{Queue, queue_of as held_queue}
-use Rattle.apd_core.specs.Invariant.{AreDecided}
-use Rattle.apd_core.proofs.HeldLemmas.{queue_of-no_outs}
+use Rattle.apd_world.proofs.Words.{Bssid, Conf, Control, CoreState, DiskModel, IsCore, IsReplaced, IsSafe, Out, Radio, RadioModel, Recipient, Slot, Sound, State, World, WorldFault, durable_of, new_core, queue_of, ready_for, slot_at, slots_of}
 use Rattle.apd_core.proofs.Settling.{decided_fit}
 use Rattle.apd_world.specs.History.{History}
 use Rattle.apd_world.specs.Mending.{IsMendedAt}
 use Rattle.apd_world.specs.StandsFor.{BeginsAt, IsHistoryOf, LeadsSafely, StandsFor, waiting_outs}
+use Rattle.apd_world.proofs.CoreHistories.{begins_blank}
 use Rattle.apd_world.proofs.HistoryLemmas.{still_leads}
 use Rattle.apd_world.proofs.Moving.{MovedAt, moved_flows}
 use Rattle.apd_world.proofs.ReplaceLemmas.{mended_moved, replaced_moved, same_durable}
@@ -57,27 +54,12 @@ module _ {D R : Type 0} (w : World D R) where
 
   -- the blank one, where a core begins with this table, and no out waits
   module _ (confs : List Conf) (table : State) (is : core ≡ new_core table confs core.heard) (sound : Sound table) (empty : (b : Bssid) → queue_of w b ≡ []) where
-    none_held : (r : Recipient) → held_queue core.confs core.held r ≡ []
-    none_held r = ap (λ (s : CoreState). held_queue s.confs s.held r) is ∙ queue_of-no_outs confs r
-
-    none_ready : (r : Recipient) → ready_for r core ≡ []
-    none_ready r = ap (λ (q : Queue). map (λ (x : ℕ × Out). x.1) (up_to core.number q)) (none_held r)
-
     none_waits : (r : Recipient) → waiting_outs r w ≡ []
     none_waits (Radio b) = empty b
     none_waits Control = refl
 
     pub begins_at : BeginsAt confs table w
-    begins_at = record {
-      history = record { sound = sound; fit = tt; durable = omega arith; given = λ r. ([], refl); read = tt };
-      confs = ap (λ (s : CoreState). s.confs) is;
-      number = ap (λ (s : CoreState). s.number) is;
-      settled = ap (λ (s : CoreState). s.settled) is;
-      unsettled = subst (λ (s : CoreState). AreDecided s.confs s.settled [] s.unsettled) (sym is) tt;
-      held = λ r. none_held r ∙ sym (ap (λ (q : Queue). up_to core.number q ++ []) (none_held r));
-      heard_so = refl;
-      waiting = λ r. sym (λ i. none_waits r i ++ none_ready r i);
-    }
+    begins_at = begins_blank core confs table is sound (λ r. waiting_outs r w) none_waits
 
 -- a call that moves no out leaves the history
 module _ {D R : Type 0} (disk : DiskModel D) (radio : RadioModel R) (old new : World D R) (same : durable_of new ≡ durable_of old) (moved : (c : Bssid) → MovedAt radio old new c [] [])

@@ -1,13 +1,14 @@
-mod Accounts
+pub mod Accounts
 pub mod EndLemmas
 mod FailLemmas
 mod FollowLemmas
-mod FromSteps
+pub mod FromSteps
 mod Moving
 mod CutShort
 mod Order
-mod Goings
+pub mod Goings
 mod HistoryBegins
+pub mod CoreHistories
 mod HistoryLemmas
 mod Lasting
 mod Joining
@@ -16,9 +17,9 @@ mod SlotLemmas
 mod RoundLemmas
 mod SoFar
 pub mod RunLemmas
-mod DurableSteps
+pub mod DurableSteps
 mod Speaking
-mod StepLemmas
+pub mod StepLemmas
 mod Replies
 mod ReplaceLemmas
 mod Words

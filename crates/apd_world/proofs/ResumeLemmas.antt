@@ -18,11 +18,14 @@ use Rattle.apd_world.specs.BegunAnew.{IsBegunAnew, IsBegunWith, IsNotBegunAnew}
 use Rattle.apd_world.specs.History.{after}
 use Rattle.apd_world.specs.declared.fault.WorldFault.TheVariants as world_fault
 use Rattle.apd_world.proofs.SlotLemmas.{all_at, place_of_own, slot_is}
-use Rattle.apd_world.proofs.SoFar.{first_is, rest_is, zip_all, AreSoFar}
+use Rattle.apd_world.proofs.SoFar.{first_is, rest_is, zip_firsts, AreSoFar}
 
-module _ {R : Type 0} (radio : RadioModel R) (s : State) where
+module _ {R : Type 0} (radio : RadioModel R) (frames : R → Option (List (List ℕ))) (s : State) where
+  abbrev pub HasSameFrames : Slot R → Slot R → Type 0
+  HasSameFrames before after = frames (radio_of after) ≡ frames (radio_of before)
+
   abbrev pub Resumes : Slot R → Slot R → Type 0
-  Resumes before after = IsResumed radio s after
+  Resumes before after = IsResumed radio s after × HasSameFrames before after
 
   -- one has not
   pub one_failed : (i : ℕ) (old now : List (Slot R)) (before after : Slot R) (fault : SlotFault) → i < length now → before ≡ get_or now i before
@@ -41,10 +44,11 @@ module _ {R : Type 0} (radio : RadioModel R) (s : State) where
         bssid = refl;
         given = given;
         resumed = subst (AreResumed radio s) (sym (take-set now i after))
-            (zip_all (IsResumed radio s) (take i old) (take i now) h.changed);
+            (zip_firsts (IsResumed radio s) HasSameFrames (take i old) (take i now) h.changed);
         rest = rest_is Resumes i old now before after is given.bssid h lt;
       }
 
+module _ {R : Type 0} (radio : RadioModel R) (s : State) where
   -- one has
   pub one_resumed : (slot : Slot R) → is_up_of slot ≡ true → wanted_of slot ≡ installed_rows s (bssid_of slot) → radio.stations (radio_of slot) ≡ installed_rows s (bssid_of slot) → slot_queue slot ≡ []
       → IsResumed radio s slot

@@ -1,5 +1,5 @@
 -- Slots that change one after another, each keeping its BSSID.
-use Rattle.std.proofs.Common.{◌≡◌, ℕ, suc, ◌+◌, ◌<◌, ◌≤◌, List, [], ◌∷◌, ◌++◌, length, take, drop, refl, sym, ap, subst, ◌∙◌, arith, get_or, set, length-set, add-one}
+use Rattle.std.proofs.Common.{◌≡◌, ℕ, suc, ◌+◌, ◌<◌, ◌≤◌, List, [], ◌∷◌, ◌++◌, length, map, take, drop, refl, sym, ap, subst, ◌∙◌, arith, get_or, set, length-set, add-one}
 use Rattle.std.specs.List.{AllByRecursion, AllZip}
 use Rattle.std.proofs.Math.Seq.{drop-cons, map-set_same, take-suc, take-suc-set}
 use Rattle.std.proofs.lemmas.List.{drop-set-lt, take_all}
@@ -11,6 +11,20 @@ zip_all P [] [] h = tt
 zip_all P (x ∷ xs) (y ∷ ys) h = (h.0, zip_all P xs ys h.1)
 zip_all P [] (y ∷ ys) h = absurd h
 zip_all P (x ∷ xs) [] h = absurd h
+
+pub zip_firsts : {A : Type 0} (P : A → Type 0) (Q : A → A → Type 0) (xs ys : List A) → AllZip (λ x y. P y × Q x y) xs ys
+    → AllByRecursion P ys
+zip_firsts P Q [] [] h = tt
+zip_firsts P Q (x ∷ xs) (y ∷ ys) h = (h.0.0, zip_firsts P Q xs ys h.1)
+zip_firsts P Q [] (y ∷ ys) h = absurd h
+zip_firsts P Q (x ∷ xs) [] h = absurd h
+
+pub zip_same : {A B : Type 0} (f : A → B) (P : A → Type 0) (xs ys : List A) → AllZip (λ x y. P y × (f y ≡ f x)) xs ys
+    → map f ys ≡ map f xs
+zip_same f P [] [] h = refl
+zip_same f P (x ∷ xs) (y ∷ ys) h = λ i. h.0.1 i ∷ zip_same f P xs ys h.1 i
+zip_same f P [] (y ∷ ys) h = absurd h
+zip_same f P (x ∷ xs) [] h = absurd h
 
 module _ {R : Type 0} (Change : Slot R → Slot R → Type 0) where
   -- so many have changed, and the others are as they were

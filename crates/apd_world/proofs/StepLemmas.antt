@@ -61,6 +61,14 @@ same_entered (core_accepted.Quiet why) asked = refl
 same_entered core_accepted.Busy asked = refl
 same_entered core_accepted.Stopped asked = refl
 
+-- what a request does to a core, by its answer
+pub request_goes : (s : CoreState) (m : Moment) (i : Input) (a : CoreAccepted) → a ≡ answer_at s m i → IsCore s → AreFit (front_of s) s.confs (answer_happenings a (happening_of s.confs s.heard m i))
+    → IsRequested s m (happening_of s.confs s.heard m i) (reception_of a) (after_request s m i)
+request_goes s m i a is core fit =
+    let asked = happening_of s.confs s.heard m i in
+    subst (λ (z : CoreAccepted). IsRequested s m asked (reception_of a) (state_after s m asked z)) is
+    (requested s m asked a core (subst (λ (es : List Happening). AreFit (front_of s) s.confs es) (same_entered a asked) fit))
+
 pub accepted_is : {D : Type 0} (i : Input) (m : Moment) (answer : Reception) (a : CoreAccepted) (old : DurableCore D) (core : CoreState) → answer ≡ reception_of a → a ≡ answer_at old.core m i
     → AreFit (front_of old.core) old.core.confs (answer_happenings a (happening_of old.core.confs old.core.heard m i)) → core ≡ after_request old.core m i → IsAccepted i m answer old (record old { core = core })
 accepted_is i m answer a old core is told fit after =

@@ -1,5 +1,5 @@
 -- Slots that resume by a table (own).
-use Rattle.std.specs.Prelude.{◌≡◌, ◌+◌, ℕ, List, [], drop, map, take, Some, Err, slice_get}
+use Rattle.std.specs.Prelude.{◌≡◌, ◌+◌, ℕ, List, [], drop, map, take, Option, Some, Err, slice_get}
 use Rattle.std.specs.List.{AllByRecursion}
 use Rattle.apd_world.specs.Words.{Bssid, DiskModel, IsGivenRows, RadioModel, Shows, Slot, SlotFault, State, Store, World, WorldFault, bssid_of, installed_rows, radio_of, wanted_of}
 use Rattle.apd_slot.specs.Resumed.{Resumed}
@@ -20,6 +20,10 @@ AreResumed radio s slots = AllByRecursion (IsResumed radio s) slots
 -- the same BSSIDs, in the same order
 abbrev pub HaveSameBssids : {R : Type 0} → List (Slot R) → List (Slot R) → Type 0
 HaveSameBssids old new = map bssid_of new ≡ map bssid_of old
+
+-- with radios that receive the same frames, in the same order
+abbrev pub HaveSameFrames : {R : Type 0} → (R → Option (List (List ℕ))) → List (Slot R) → List (Slot R) → Type 0
+HaveSameFrames frames old new = map (λ slot. frames (radio_of slot)) new ≡ map (λ slot. frames (radio_of slot)) old
 
 -- a world's slots have resumed by its table, from these; they follow it, and no out waits
 pub record HasResumed {D R : Type 0} (radio : RadioModel R) (slots : List (Slot R)) (w : World D R) : Type 0 where

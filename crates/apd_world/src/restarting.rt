@@ -3,9 +3,9 @@ ghost use Rattle.std.specs.Prelude.{◌≡◌, ◌≢◌, ◌⊎◌, IfOk, IfErr
 ghost use Rattle.apd_base.specs.declared.address.Bssid.{Bssid as Address};
 ghost use Rattle.apd_slot.specs.declared.slot.SlotFault.{SlotFault as Fault};
 ghost use Rattle.apd_world.specs.BegunAnew.{IsBegunAnew, IsBegunWith, IsNotBegunAnew};
-ghost use Rattle.apd_world.specs.Resumed.{AreHandedBack, AreResumed, EndsAtSlot, HasNotResumed, HasResumed, HaveSameBssids};
+ghost use Rattle.apd_world.specs.Resumed.{AreHandedBack, AreResumed, EndsAtSlot, HasNotResumed, HasResumed, HaveSameBssids, HaveSameFrames};
 ghost use Rattle.apd_world.specs.StandsFor.{BeginsAt};
-ghost use Rattle.apd_world.specs.WorldParts.{durable_of};
+ghost use Rattle.apd_world.specs.WorldParts.{durable_of, slots_of};
 
 use crate::core_restarting::durable_core_of;
 use crate::fault::WorldFault;
@@ -28,6 +28,7 @@ fn resume_all<R: Radio>(
     slots: &mut [Slot<R>],
 ) -> Result<(), (Bssid, SlotFault)>
     ensures ok { OnOk result (AreResumed R.model table.now slots.new) }
+    ensures frames { OnOk result (HaveSameFrames R.frames slots.old slots.new) }
     ensures same { HaveSameBssids slots.old slots.new }
     ensures err { IfErr result (λ e. HasNotResumed R.model table.now e.0 e.1 slots.old slots.new) }
 {
@@ -57,6 +58,7 @@ pub fn begin_anew<D: Disk, R: Radio>(
     ensures begun { IfOk result (λ world. IsBegunWith D.model store table confs moment (durable_of world)) }
     ensures resumed { IfOk result (HasResumed R.model slots.items) }
     ensures begins { IfOk result (BeginsAt confs table) }
+    ensures frames { IfOk result (λ world. HaveSameFrames R.frames slots.items (slots_of world)) }
     ensures none { IfErr result (λ e. AreHandedBack R.model store table slots.items e.0 e.1.items e.2) }
 {
     let mut slots = slots;
@@ -100,6 +102,7 @@ pub fn restart<D: Disk, R: Radio>(
     ensures begun { IfOk result (λ world. IsBegunAnew D.model device confs moment (durable_of world)) }
     ensures resumed { IfOk result (HasResumed R.model slots.items) }
     ensures begins { IfOk result (λ world. BeginsAt confs (durable_of world).core.settled world) }
+    ensures frames { IfOk result (λ world. HaveSameFrames R.frames slots.items (slots_of world)) }
     ensures none { IfErr result (λ e. IsNotBegunAnew D.model device e.0 e.2) }
     ensures only { IfErr result
         (λ e. (e.2 ≡ WorldFault.Store StoreFault.NotAStore) ⊎ (e.2 ≡ WorldFault.Store StoreFault.OldVersion)

@@ -1,19 +1,17 @@
-use Rattle.std.proofs.Common.{◌≡◌, refl, ap, ◌∙◌}
-use Rattle.apd_world.proofs.Words.{CoreState, DurableCore, Hand, NoMemory, flight_of}
+use Rattle.std.proofs.Common.{◌≡◌, refl}
+use Rattle.apd_world.proofs.Words.{DurableCore, Hand, NoMemory}
 use Rattle.apd_world.proofs.Goings.{goes_unchanged}
-use Rattle.apd_world.proofs.DurableSteps.{made_beside, made_unchanged, safe_beside}
-use Rattle.apd_world.proofs.StepLemmas.{hand_step, lacking_not_called, step_unchanged}
+use Rattle.apd_world.proofs.DurableSteps.{made_beside, made_unchanged}
+use Rattle.apd_world.proofs.FromSteps.{gives_out}
+use Rattle.apd_world.proofs.StepLemmas.{lacking_not_called, step_unchanged}
 use Rattle.apd_world.proofs.durable_core.DurableCore.hand.Goals as goal
 
 pub returns-in-Ok : goal.returns-in-Ok
 returns-in-Ok g c =
     let old = c.args.self.now in
     let new = record old { core = c.collect.new.self } in
-    let t = c.in-Ok.ensures in
-    let ok = t.1.1 in
-    let step = hand_step old new c.args.to c.from_vec.result t.0 (record { outs_are = c.from_vec.ensures ∙ t.1.0; only = λ i. record old { core = ok i } }) in
-    let safe = safe_beside g.D.Disk.model old new refl (ap (λ (s : CoreState). s.settled) ok) (ap flight_of ok) (ap (λ (s : CoreState). s.failed) ok) c.stops.ensures in
-    record { ok = step; err = tt; lacks = tt; made = made_beside g.D.Disk.model NoMemory old new refl (lacking_not_called _) safe }
+    let both = gives_out g.D.Disk.model old c.collect.new.self c.stops.ensures c.args.to c.in-Ok.outs.items c.from_vec.result c.from_vec.ensures c.in-Ok.ensures in
+    record { ok = both.0; err = tt; lacks = tt; made = made_beside g.D.Disk.model NoMemory old new refl (lacking_not_called _) both.1 }
 
 pub returns-in-Err : goal.returns-in-Err
 returns-in-Err g c =

@@ -1,0 +1,6 @@
+mod Calls
+mod Histories
+mod Merging
+mod MomentLemmas
+mod Runs
+mod Threads
