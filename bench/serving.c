@@ -1,8 +1,9 @@
-/* Drives what serves stations over datagrams of 127.0.0.1, and measures it. Built and used by serving.sh.
+/* Drives what serves stations over datagrams of 127.0.0.1, and measures it. Built and used by serving.sh and silence.sh.
 
        serving storm PORT RADIOS STATIONS ROUNDS STORE FOLDER NAME WINDOW..
        serving single PORT RADIOS
        serving probes PORT ROUNDS STORE NAME WINDOW..
+       serving silence PORT RADIOS STATIONS SECONDS
 
    Radio i has the port PORT + 1 + i, the BSSID 02:00:00:00:00:01 + i and the network "net"; station s, counted over all
    radios, is at radio s modulo RADIOS. storm lets each station associate; then, at each window, it has them ask for
@@ -12,7 +13,12 @@
 
    probes asks radio 0 a thousand times, one at a time with a rest of 5 ms before each: one station for reassociation,
    and then as many passers-by for any network, who then ask at each window. It asks the same of a bare loop. A line has
-   the median, the least and the most of so many ROUNDS. */
+   the median, the least and the most of so many ROUNDS.
+
+   silence lets each station associate, and then say nothing, until each was disassociated and then deauthenticated,
+   which begins after so many SECONDS and after as many again. Meanwhile passers-by ask radio 0 for any network, one at a
+   time with a rest of 5 ms before each. A line has the seconds from the first such frame to the last, of either kind, and
+   how long an answer took, before and while these came. */
 #define _GNU_SOURCE
 #include <arpa/inet.h>
 #include <errno.h>
@@ -421,6 +427,88 @@ static void print_rounds(struct storm storm, const int *loops, int turns, const 
     print_load();
 }
 
+/* Silence. */
+
+struct farewells { long count; int64_t first, last; };
+
+/* Sends the request of a passer-by; when. */
+static int64_t ask_in_passing(int descriptor, int passer)
+{
+    uint8_t frame[64];
+    send(descriptor, frame, spell(frame, PROBE, passer, 0), 0);
+    return now();
+}
+
+/* What came at a radio: counts a farewell, and tells whether the passer-by was answered. */
+static int take_farewells(int descriptor, int passer, struct farewells *back, struct farewells *gone)
+{
+    uint8_t frame[2400];
+    ssize_t length;
+    int is_answered = 0;
+    while ((length = recv(descriptor, frame, sizeof frame, MSG_DONTWAIT)) >= 0) {
+        struct farewells *which = length >= 26 && frame[0] == 0xa0 ? back : length >= 26 && frame[0] == 0xc0 ? gone : NULL;
+        if (which) {
+            which->last = now();
+            if (which->count++ == 0)
+                which->first = which->last;
+        } else if (answered(frame, length) == passer && frame[0] == 0x50) {
+            is_answered = 1;
+        }
+    }
+    if (errno == ECONNREFUSED)
+        FAIL("nobody serves a radio");
+    return is_answered;
+}
+
+/* Prints of so many latencies how many there are, the median, what one of a hundred is above, and the greatest. */
+static void print_latencies(uint32_t *of, long count)
+{
+    qsort(of, count, sizeof *of, rising);
+    if (count)
+        printf(" %7ld %7.2f %7.2f %7.2f", count, of[count / 2] / 1e5, of[count * 99 / 100] / 1e5, of[count - 1] / 1e5);
+    else
+        printf(" %7d %7s %7s %7s", 0, "-", "-", "-");
+}
+
+static void fall_silent(const int *sockets, int radios, long stations, int seconds)
+{
+    static uint32_t before[REQUESTS], meanwhile[REQUESTS];
+    struct pollfd wait[RADIOS];
+    struct farewells back = {0}, gone = {0};
+    long quiet = 0, busy = 0;
+    int passer = STATIONS, is_answered = 1; /* no station */
+    int64_t heard = now(), sent = 0, again = 0, answered_at = 0;
+    for (int i = 0; i < radios; i++)
+        wait[i] = (struct pollfd){.fd = sockets[i], .events = POLLIN};
+    while (gone.count < stations) {
+        if (is_answered && now() - answered_at > SECOND / 200) {
+            passer = STATIONS + (passer + 1) % PROBES;
+            is_answered = 0;
+            sent = again = ask_in_passing(sockets[0], passer);
+        } else if (!is_answered && now() - again > patience) {
+            again = ask_in_passing(sockets[0], passer);
+        }
+        poll(wait, radios, 1);
+        for (int i = 0; i < radios; i++)
+            if (wait[i].revents && take_farewells(sockets[i], i ? -1 : passer, &back, &gone) && !is_answered) {
+                int is_busy = (back.count && back.count < stations) || gone.count;
+                is_answered = 1;
+                answered_at = now();
+                if (is_busy && busy < REQUESTS)
+                    meanwhile[busy++] = (answered_at - sent) / 10;
+                if (!is_busy && quiet < REQUESTS)
+                    before[quiet++] = (answered_at - sent) / 10;
+            }
+        if (now() - heard > (2 * seconds + 1800) * SECOND)
+            FAIL("of %ld stations %ld went back, and %ld went", stations, back.count, gone.count);
+    }
+    printf("%8ld %6d %8.1f %8.1f %8.1f %8.1f", stations, radios, (back.first - heard) / 1e9, (back.last - back.first) / 1e9,
+           (gone.first - heard) / 1e9, (gone.last - gone.first) / 1e9);
+    print_latencies(before, quiet);
+    print_latencies(meanwhile, busy);
+    print_load();
+}
+
 /* What each mode does, once there are sockets for the radios and for as many bare loops. */
 
 static int number_of(const char *word, int least, int most, const char *what)
@@ -487,27 +575,39 @@ static void scan(struct storm storm, const int *loops, int count, char **words)
     }
 }
 
+static void be_silent(struct storm storm, int seconds)
+{
+    alarm(ALARM + 2 * seconds + 1800);
+    join(storm);
+    fall_silent(storm.sockets, storm.radios, storm.stations, seconds);
+}
+
 int main(int count, char **words)
 {
     int sockets[RADIOS], loops[RADIOS], is_storm = count > 9 && !strcmp(words[1], "storm"),
-        is_single = count == 4 && !strcmp(words[1], "single"), is_scan = count > 5 && !strcmp(words[1], "probes");
+        is_single = count == 4 && !strcmp(words[1], "single"), is_scan = count > 5 && !strcmp(words[1], "probes"),
+        is_silence = count == 6 && !strcmp(words[1], "silence");
     struct storm storm = {.sockets = sockets};
     signal(SIGALRM, end_late);
     alarm(ALARM);
     if (getenv("PATIENCE"))
         patience = number_of(getenv("PATIENCE"), 20, 60000, "PATIENCE") * (SECOND / 1000);
-    if (!is_storm && !is_single && !is_scan)
-        FAIL("storm PORT RADIOS STATIONS ROUNDS STORE FOLDER NAME WINDOW.., single PORT RADIOS, or "
-             "probes PORT ROUNDS STORE NAME WINDOW..");
+    if (!is_storm && !is_single && !is_scan && !is_silence)
+        FAIL("storm PORT RADIOS STATIONS ROUNDS STORE FOLDER NAME WINDOW.., single PORT RADIOS, "
+             "probes PORT ROUNDS STORE NAME WINDOW.., or silence PORT RADIOS STATIONS SECONDS");
     int port = number_of(words[2], 1024, 65000, "PORT");
     storm.radios = is_scan ? 1 : number_of(words[3], 1, RADIOS, "RADIOS");
-    storm.stations = is_storm ? number_of(words[4], storm.radios, STATIONS, "STATIONS") : storm.radios;
+    storm.stations =
+        is_storm || is_silence ? number_of(words[4], storm.radios, STATIONS, "STATIONS") : storm.radios;
     for (int i = 0; i < storm.radios; i++) {
         sockets[i] = connected(port + 1 + i);
-        loops[i] = connected(begin_loop());
+        if (!is_silence)
+            loops[i] = connected(begin_loop());
     }
     if (is_storm)
         rejoin(storm, loops, count, words);
+    else if (is_silence)
+        be_silent(storm, number_of(words[5], 1, 86400, "SECONDS"));
     else if (is_single)
         ask_singly(storm, loops);
     else

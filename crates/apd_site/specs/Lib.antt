@@ -1,2 +1,3 @@
-pub mod Kinds
+pub mod Driven
+pub mod Recorded
 pub mod StoreDisk

@@ -2,9 +2,9 @@
 #![tactic(auto)]
 
 mod alarm;
+mod driven;
 mod driver_notes;
 mod edits;
-mod either;
 mod elsewhere;
 mod file_reason;
 mod files;
@@ -21,12 +21,13 @@ mod store_watch;
 mod telling_file;
 mod telling_input;
 mod telling_radio;
+mod unanswered;
 mod until_fault;
 mod watched_file;
 
 pub use alarm::Alarm;
+pub use driven::{Driven, DrivenBy};
 pub use edits::{Edits, ListEdit};
-pub use either::Either;
 pub use elsewhere::Elsewhere;
 pub use file_reason::{FileReason, Words};
 pub use files::{open_recordings_of, open_watch};
@@ -38,7 +39,7 @@ pub use notices::{
     tell_worn_out, words_of_served,
 };
 pub use opening::{Access, OpenFault, file_or_fault, make_disk, open_disk};
-pub use radios::{Driven, Recorded, SiteRadio, elsewhere_of, open_radios, site_radios};
+pub use radios::{Recorded, SiteRadio, elsewhere_of, open_radios, site_radios};
 pub use recordings::{RecordingFile, begins_as_a_store};
 pub use site::{Site, SiteFault};
 pub use station_notes::StationNotes;

@@ -101,6 +101,16 @@ pub(crate) fn tell_failed_call<R: Log>(rt: &R, name: &str, failed: &FailedCall) 
     error!(rt; target: "apd", "{name}: {failed}");
 }
 
+/// Logs, at the level warn, that the store's file has not answered a call for so many seconds.
+pub(crate) fn tell_unanswered<R: Log>(rt: &R, seconds: u64) {
+    warn!(rt; target: "apd", "the store has not answered for {seconds} s: what waits for it is answered once it does");
+}
+
+/// Logs, at the level warn, that the store's file answered a call, and after how many seconds.
+pub(crate) fn tell_answers_again<R: Log>(rt: &R, seconds: u64) {
+    warn!(rt; target: "apd", "the store answers again, after {seconds} s");
+}
+
 /// Logs that the store is worn out, at the level error.
 pub fn tell_worn_out<R: Log>(rt: &R) {
     error!(rt; target: "apd", "the store is worn out: nothing more is made durable, and what would change the table is refused; end it, and start it on a new store");

@@ -1,5 +1,5 @@
 //! The radios of a site.
-use crate::either::Either;
+use crate::driven::{Driven, DrivenBy};
 use crate::elsewhere::Elsewhere;
 use crate::recordings::{RecordingFile, empty_files};
 use crate::site::{Site, SiteFault};
@@ -13,14 +13,8 @@ use std::alloc::{AllocError, Global};
 use std::fs::File;
 use std::net::Net;
 
-/// A radio over datagrams: one of whoever is heard last, or one of a driver elsewhere.
-pub type Driven = Either<UdpSim, DriverRadio>;
-
-// A radio of any type that is recorded, or isn't.
-type RecordedAs<'a, L, R> = Either<R, Recording<R, TellingFile<'a, L, File>>>;
-
-/// A radio that is recorded, or isn't.
-pub type Recorded<'a, L> = RecordedAs<'a, L, Driven>;
+/// A radio that is recorded, or whose recording goes nowhere.
+pub type Recorded<'a, L, R = Driven> = Recording<R, TellingFile<'a, L, File>>;
 
 /// A radio of a site.
 pub type SiteRadio<'a, L> = TellingRadio<'a, L, Recorded<'a, L>>;
@@ -42,10 +36,10 @@ fn open_radio(
 ) -> Result<Driven, SiteFault> {
     let own = port_above(port_above(site.port, 1)?, place)?;
     let opened = match site.drivers {
-        None => UdpSim::new(rt, rt.alloc(), own).map(Either::One),
+        None => UdpSim::new(rt, rt.alloc(), own).map(DrivenBy::Anyone),
         Some(drivers) => {
             let driver = port_above(drivers, place)?;
-            DriverRadio::new(rt, rt.alloc(), own, driver).map(Either::Other)
+            DriverRadio::new(rt, rt.alloc(), own, driver).map(DrivenBy::Named)
         }
     };
     opened.map_err(SiteFault::Socket)
@@ -74,7 +68,7 @@ pub fn elsewhere_of(
 ) -> Result<Elsewhere, AllocError> {
     let mut elsewhere = Elsewhere::new(alloc);
     for (radio, conf) in radios.iter().zip(confs.list()) {
-        if let Either::Other(radio) = radio {
+        if let DrivenBy::Named(radio) = radio {
             let interface = String::from_str(alloc, conf.interface.as_str())?;
             elsewhere.add(interface, radio.strangers().clone()?)?;
         }
@@ -82,15 +76,18 @@ pub fn elsewhere_of(
     Ok(elsewhere)
 }
 
-// A radio that is recorded into this file. Why the recording ends is logged.
+// A radio that is recorded into this file, if there is one. Why the recording ends is logged.
 fn record<'a, L: Log, R: Radio>(
     log: &'a L,
     alloc: Global,
     radio: R,
-    recording: RecordingFile,
-) -> RecordedAs<'a, L, R> {
-    let RecordingFile { name, file } = recording;
-    Either::Other(Recording::new(alloc, radio, TellingFile::new(log, name, file)))
+    recording: Option<RecordingFile>,
+) -> Recorded<'a, L, R> {
+    let (name, file) = match recording {
+        Some(RecordingFile { name, file }) => (name, Some(file)),
+        None => (String::new(alloc), None),
+    };
+    Recording::new(alloc, radio, TellingFile::new(log, name, file))
 }
 
 // Has each radio recorded, the one at a place into the file at that place, which is emptied; or none.
@@ -98,21 +95,14 @@ fn record_radios<'a, L: Log + AllocGlobal, R: Radio>(
     rt: &'a L,
     radios: Vec<R>,
     recordings: Option<Vec<RecordingFile>>,
-) -> Result<Vec<RecordedAs<'a, L, R>>, SiteFault> {
+) -> Result<Vec<Recorded<'a, L, R>>, SiteFault> {
     let mut recorded = Vec::with_capacity(rt.alloc(), radios.len())?;
-    match recordings {
-        None => {
-            for radio in radios {
-                recorded.push(Either::One(radio)).map_err(AllocError::from)?;
-            }
-        }
-        Some(recordings) => {
-            empty_files(rt, &recordings)?;
-            for (radio, recording) in radios.into_iter().zip(recordings) {
-                let radio = record(rt, rt.alloc(), radio, recording);
-                recorded.push(radio).map_err(AllocError::from)?;
-            }
-        }
+    let recordings = recordings.unwrap_or(Vec::new(rt.alloc()));
+    empty_files(rt, &recordings)?;
+    let mut recordings = recordings.into_iter();
+    for radio in radios {
+        let radio = record(rt, rt.alloc(), radio, recordings.next());
+        recorded.push(radio).map_err(AllocError::from)?;
     }
     Ok(recorded)
 }
@@ -151,7 +141,7 @@ fn radios_of<'a, L: Log + AllocGlobal, R: Radio>(
     site: &Site<'_>,
     radios: Vec<R>,
     recordings: Option<Vec<RecordingFile>>,
-) -> Result<Vec<TellingRadio<'a, L, RecordedAs<'a, L, R>>>, SiteFault> {
+) -> Result<Vec<TellingRadio<'a, L, Recorded<'a, L, R>>>, SiteFault> {
     let recorded = record_radios(rt, radios, recordings)?;
     Ok(tell_of_radios(rt, rt.alloc(), confs, recorded, site.logs_stations)?)
 }

@@ -1,10 +1,12 @@
-//! Whether the name of a store is still that of the file that is served, and whether that has a store's length.
+//! Whether the name of a store is still that of the file that is served, whether that has a store's length, and whether it
+//! answers.
 ghost use Rattle.std.specs.Prelude.{◌≡◌, ◌≢◌, ◌↔◌, Some, None};
 ghost use Rattle.apd_base.specs.declared.limits.TheConstants.{DEVICE_LENGTH};
 
 use crate::elsewhere::Elsewhere;
 use crate::identity::Identity;
 use crate::notices::{tell_failed_call, tell_fate, tell_length};
+use crate::unanswered::Unanswered;
 use crate::watched_file::FileState;
 use apd_base::limits::DEVICE_LENGTH;
 use log::Log;
@@ -15,8 +17,11 @@ use std::rt::Files;
 use std::sync::{Condvar, CondvarTimeouts, Mutex, Wait};
 use std::time::{Clock, Duration};
 
-/// How long it is from one look to the next, in milliseconds.
-const PAUSE: u64 = 1_000;
+/// How long it is from one look at the calls of a store to the next, in milliseconds.
+const PAUSE: u64 = 250;
+
+/// How many of these looks there are between two at all else.
+const BETWEEN: u32 = 3;
 
 /// What became of a file that is open.
 #[derive(Clone, Copy, Debug, PartialEq, Eq)]
@@ -87,6 +92,7 @@ pub struct StoreWatch<'a> {
     fate_told: bool,
     misfit_told: bool,
     failed_told: bool,
+    unanswered: Unanswered,
 }
 
 impl<'a> StoreWatch<'a> {
@@ -108,6 +114,7 @@ impl<'a> StoreWatch<'a> {
                 fate_told: false,
                 misfit_told: false,
                 failed_told: false,
+                unanswered: Unanswered::new(),
             }),
             Err(TryLockError::Error(error)) => Err(error),
             Ok(()) => Err(ErrorKind::NotFound.into()),
@@ -151,15 +158,16 @@ impl<'a> StoreWatch<'a> {
             tell_length(rt, self.name, misfit);
             self.misfit_told = true;
         }
-        self.tell_failed_call(rt);
     }
 
-    // Tells once which call of it failed first.
-    fn tell_failed_call<L: Log>(&mut self, log: &L) {
+    // Looks at its calls. Which one failed first is told once, and so is one that has no answer for long, and that it was
+    // answered.
+    fn look_at_calls<W: Clock + Log>(&mut self, rt: &W) {
+        self.unanswered.look(rt, self.state.unanswered());
         if !self.failed_told
             && let Some(failed) = self.state.failed_call()
         {
-            tell_failed_call(log, self.name, failed);
+            tell_failed_call(rt, self.name, failed);
             self.failed_told = true;
         }
     }
@@ -196,19 +204,27 @@ impl Ending {
     }
 }
 
-/// Looks about once a second at the file of a store, and at what came from elsewhere, until it ends.
+/// Looks about once a second at the file of a store, and at what came from elsewhere, until it ends; and at the calls of
+/// that file four times.
 pub fn watch<W: Files<File = File> + Wait + Clock + Log>(
     rt: &W,
     store: &mut StoreWatch<'_>,
     elsewhere: &mut Elsewhere,
     ending: &Ending,
 ) {
+    let mut rest = BETWEEN;
     for _ in rt.forever() {
-        if ending.wait_for_end(rt, Duration::from_millis(PAUSE)) {
-            store.tell_failed_call(rt);
+        let ended = ending.wait_for_end(rt, Duration::from_millis(PAUSE));
+        store.look_at_calls(rt);
+        if ended {
             return;
         }
-        store.look(rt);
-        elsewhere.look(rt);
+        if rest > 0 {
+            rest -= 1;
+        } else {
+            store.look(rt);
+            elsewhere.look(rt);
+            rest = BETWEEN;
+        }
     }
 }

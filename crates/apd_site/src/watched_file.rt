@@ -1,13 +1,13 @@
 //! The file of a store, which is not asked any more once it is lost.
-ghost use Rattle.std.specs.Prelude.{◌≡◌, [], IfOk};
+ghost use Rattle.std.specs.Prelude.{◌≡◌, [], IfOk, IsOk, OnOk};
 
 use apd_disk::{DeviceFile, FileDisk};
 use std::alloc::{AllocError, Global};
 use std::fmt::{self, Display, Formatter};
 use std::fs::File;
 use std::io::{self, ErrorKind};
-use std::sync::atomic::AtomicBool;
 use std::sync::atomic::Ordering::SeqCst;
+use std::sync::atomic::{AtomicBool, AtomicU64};
 use std::sync::{Arc, OnceLock};
 
 // What a file is asked for.
@@ -42,15 +42,18 @@ impl Display for FailedCall {
     }
 }
 
-// Whether a file was lost, and its first call that failed.
+// Whether a file was lost, its first call that failed, and how often it was asked or answered: a number that is odd while
+// it owes an answer. Behind the greatest number comes 0.
 #[derive(Drop)]
 struct State {
     lost: AtomicBool,
     failed: OnceLock<FailedCall>,
+    turns: AtomicU64,
 }
 
-/// What becomes of the file of a store: whether it was lost, as it was removed, replaced or cut, and which call of it failed
-/// first. Threads share it: a clone is another handle of the same.
+/// What becomes of the file of a store: whether it was lost, as it was removed, replaced or cut, which call of it failed
+/// first, and which one it has not answered. Threads share it, and none waits for another: a clone is another handle of the
+/// same.
 #[derive(Clone, Drop)]
 pub struct FileState {
     state: Arc<State, Global>,
@@ -64,13 +67,14 @@ fn shareable<T: Send + Sync>(shared: T) -> T
 }
 
 impl FileState {
-    /// It was not lost, and failed no call.
+    /// It was not lost, and was asked for nothing yet.
     ///
     /// Errors: memory runs out.
     pub fn new(alloc: Global) -> Result<FileState, AllocError> {
         let state = State {
             lost: AtomicBool::new(false),
             failed: OnceLock::new(),
+            turns: AtomicU64::new(0),
         };
         Ok(shareable(FileState {
             state: Arc::new(alloc, state)?,
@@ -87,19 +91,36 @@ impl FileState {
         self.state.failed.get()
     }
 
-    // An error where it was lost.
-    fn check(&self) -> io::Result<()> {
+    /// The call that it has not answered, by a number that no other call of its time has.
+    pub(crate) fn unanswered(&self) -> Option<u64> {
+        let turns = self.state.turns.load(SeqCst);
+        if turns % 2 == 1 { Some(turns) } else { None }
+    }
+
+    // It is asked for a call from here on.
+    //
+    // Errors: it was lost, and is not asked.
+    fn begin_call(&self) -> io::Result<()> {
         if self.state.lost.load(SeqCst) {
             return Err(ErrorKind::NotFound.into());
         }
+        self.state.turns.fetch_add(1, SeqCst);
         Ok(())
     }
 
-    // It failed this call. Gives an error of the same kind.
-    fn note_failed(&self, asked: Asked, error: io::Error) -> io::Error {
-        let kind = error.kind();
-        let _first = self.state.failed.try_set(FailedCall { asked, error });
-        kind.into()
+    // It answered the call so. Gives that answer; of an error only the kind.
+    fn end_call(&self, asked: Asked, answer: io::Result<()>) -> io::Result<()>
+        ensures { OnOk result (IsOk answer) }
+    {
+        self.state.turns.fetch_add(1, SeqCst);
+        match answer {
+            Ok(()) => Ok(()),
+            Err(error) => {
+                let kind = error.kind();
+                let _first = self.state.failed.try_set(FailedCall { asked, error });
+                Err(kind.into())
+            }
+        }
     }
 }
 
@@ -120,27 +141,21 @@ impl<F: DeviceFile> DeviceFile for WatchedFile<F> {
     ghost drops = { λ old new. F.drops old.file new.file };
 
     fn read_exact_at(&mut self, buf: &mut [u8], at: u64) -> io::Result<()> {
-        self.state.check()?;
-        match self.file.read_exact_at(buf, at) {
-            Ok(()) => Ok(()),
-            Err(error) => Err(self.state.note_failed(Asked::Read, error)),
-        }
+        self.state.begin_call()?;
+        let answer = self.file.read_exact_at(buf, at);
+        self.state.end_call(Asked::Read, answer)
     }
 
     fn write_all_at(&mut self, bytes: &[u8], at: u64) -> io::Result<()> {
-        self.state.check()?;
-        match self.file.write_all_at(bytes, at) {
-            Ok(()) => Ok(()),
-            Err(error) => Err(self.state.note_failed(Asked::Write, error)),
-        }
+        self.state.begin_call()?;
+        let answer = self.file.write_all_at(bytes, at);
+        self.state.end_call(Asked::Write, answer)
     }
 
     fn sync_data(&mut self) -> io::Result<()> {
-        self.state.check()?;
-        match self.file.sync_data() {
-            Ok(()) => Ok(()),
-            Err(error) => Err(self.state.note_failed(Asked::Sync, error)),
-        }
+        self.state.begin_call()?;
+        let answer = self.file.sync_data();
+        self.state.end_call(Asked::Sync, answer)
     }
 
     fn drop_pages(&mut self) {
