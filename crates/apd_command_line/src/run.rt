@@ -1,5 +1,6 @@
 //! The subcommand that serves.
 use crate::argument::{file, flag, option};
+use apd_base::limits::MAX_BSS;
 use clap::error::ErrorKind;
 use clap::{Arg, ArgAction, ArgMatches, Command, value_parser};
 use std::alloc::{AllocError, Global};
@@ -29,14 +30,31 @@ const STATIONS: &str = "Logs who associated, left or was let go, and each edit o
 
 const TIME: &str = "Puts the time in front of each line of the log, in UTC";
 
+/// The least port and the greatest one that commands may come to: an ordinary user may have it, and ports above it are left
+/// for the radios (own).
+const LEAST_PORT: i64 = 1024;
+
+const GREATEST_PORT: i64 = 65_000;
+
+/// How many ports the drivers of radios may have, and the daemon: a radio of each BSSID, and the latter that of commands
+/// too.
+const DRIVER_PORTS: u16 = MAX_BSS as u16;
+
+const OWN_PORTS: u16 = DRIVER_PORTS + 1;
+
+/// The greatest port that may be the first of drivers: each of theirs is a port.
+const GREATEST_BASE: i64 = (u16::MAX - (DRIVER_PORTS - 1)) as i64;
+
 fn port<'a>(alloc: Global) -> Arg<'a> {
     option(alloc, "port", "N", PORT)
         .required(true)
-        .value_parser(value_parser!(u16).range(1024..=65_000))
+        .value_parser(value_parser!(u16).range(LEAST_PORT..=GREATEST_PORT))
 }
 
 fn drivers<'a>(alloc: Global) -> Arg<'a> {
-    option(alloc, "drivers", "BASE", DRIVERS).value_parser(value_parser!(u16).range(1..=65_528))
+    option(alloc, "drivers", "BASE", DRIVERS).value_parser(value_parser!(u16).range(
+        1..=GREATEST_BASE,
+    ))
 }
 
 fn configurations<'a>(alloc: Global) -> Arg<'a> {
@@ -59,12 +77,6 @@ pub(crate) fn run_command<'a>(alloc: Global) -> Result<Command<'a>, AllocError> 
         .arg(flag(alloc, "log-time", TIME))?
         .arg(configurations(alloc))
 }
-
-/// How many ports the drivers of radios may have, and the daemon: a radio of each of eight interfaces, and the latter that
-/// of commands too.
-const DRIVER_PORTS: u16 = 8;
-
-const OWN_PORTS: u16 = 9;
 
 // Whether so many ports from one on meet so many from another one on.
 fn meets(first: u16, count: u16, other: u16, other_count: u16) -> bool {

@@ -5,6 +5,7 @@ ghost use Rattle.apd_program.specs.declared.running.RunningFault.TheVariants.{No
 use crate::host::Host;
 use crate::timed::Timed;
 use apd_conf::ConfigurationFault;
+use apd_disk::FileRecord;
 use apd_script::read_configurations;
 use apd_serve::{RunFault, run};
 use apd_site::Site;
@@ -109,7 +110,7 @@ where
     let site = site_of(store, recordings, names, options_of(matches));
     let confs = read_configurations(rt, names).map_err(RunningFault::Configuration)?;
     warn_of_ssids(rt, &confs);
-    match run(rt, confs, &site, reader).err() {
+    match run(rt, confs, &site, FileRecord::new(), reader).err() {
         None => Ok(()),
         Some(fault) => Err(RunningFault::Run(fault)),
     }

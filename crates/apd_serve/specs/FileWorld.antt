@@ -3,14 +3,14 @@ use Rattle.apd_base.specs.State.{State}
 use Rattle.apd_base.specs.declared.moment.Moment.{Moment}
 use Rattle.apd_conf.specs.declared.conf.Conf.{Conf}
 use Rattle.apd_core.specs.Heard.{AreHeardAt}
-use Rattle.std.specs.Prelude.{◌≡◌, ◌≤◌, ℕ, List, ◌++◌, length, map}
+use Rattle.std.specs.Prelude.{◌≡◌, ◌≤◌, ℕ, List, ◌++◌, length, map, take, Option}
 use Rattle.apd_disk.specs.FileCalls.{FileLeaves, FileLeftSince, file_reads}
 use Rattle.apd_disk.specs.FileModel.{file_model}
 use Rattle.apd_disk.specs.FileMore.{HasMore}
 use Rattle.apd_site.specs.StoreDisk.{StoreDisk}
 use Rattle.apd_disk.specs.declared.record.FileRecord.{FileRecord}
 use Rattle.apd_radio.specs.Model.{RadioModel}
-use Rattle.apd_slot.specs.Slots.{bssid_of}
+use Rattle.apd_slot.specs.Slots.{bssid_of, radio_of}
 use Rattle.apd_store.specs.Image.{Shows}
 use Rattle.apd_store.specs.Recovery.{IsRecovered}
 use Rattle.apd_world.specs.Following.{AreFollowing}
@@ -47,11 +47,14 @@ pub record IsBegunOver {R : Type 0} (known : FileRecord) (confs : List Conf) (wo
   pub proper : IsProper file_model (durable_of world)
 
 -- Whatever the file held: each station was heard last at this moment, and each slot has resumed by the table, and follows
--- it. Where there is a radio for each configuration, there is a slot for each, in their order.
-pub record IsBegunAt {R : Type 0} (radio : RadioModel R) (m : Moment) (confs : List Conf) (radios : List R)
-    (world : World StoreDisk R) : Type 0 where
+-- it. Where there is a radio for each configuration, there is a slot for each, in their order, and the radio at the same
+-- place receives its frames.
+pub record IsBegunAt {R : Type 0} (radio : RadioModel R) (frames : R → Option (List (List ℕ))) (m : Moment)
+    (confs : List Conf) (radios : List R) (world : World StoreDisk R) : Type 0 where
   pub heard : AreHeardAt m (durable_of world).core.settled (durable_of world).core.heard
   pub slots : length confs ≤ length radios → map bssid_of (slots_of world) ≡ map (λ conf. conf.bssid) confs
+  pub radios_are : length confs ≤ length radios
+      → map (λ slot. frames (radio_of slot)) (slots_of world) ≡ map frames (take (length confs) radios)
   pub resumed : AreResumed radio (durable_of world).core.settled (slots_of world)
   pub following : AreFollowing world
 

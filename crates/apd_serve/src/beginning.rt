@@ -79,7 +79,7 @@ pub fn open_store(
 }
 
 /// The world of a store that was opened, with these radios, one for each configuration, in their order. Each station of
-/// the table was heard at the moment 0, and each slot has resumed by the table. Whatever was known of the file: where it
+/// the table was heard at the moment 0, and each slot has resumed by the table and receives by its own radio. Whatever was known of the file: where it
 /// has answered as one that held that, the world stands for the history that begins at the state that its bytes show, and
 /// is proper.
 ///
@@ -92,7 +92,7 @@ pub fn begin_world<R: Radio>(
 ) -> Result<World<StoreDisk, R>, RunFault>
     ensures over { IfOk result (λ world. (known : Known) → IsRecoveredFrom known opened
         → file_model.honest (file_of world) → IsBegunOver known confs world) }
-    ensures at { IfOk result (IsBegunAt R.model (record { 0 = 0 }) confs radios.items) }
+    ensures at { IfOk result (IsBegunAt R.model R.frames (record { 0 = 0 }) confs radios.items) }
 {
     let OpenStore { store, table, .. } = opened;
     let slots = slots_for(alloc, &confs, radios)?;

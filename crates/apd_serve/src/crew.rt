@@ -1,103 +1,241 @@
-//! Threads that work side by side until the input ends.
+//! A crew: the workers round one core, from the first to the last.
+ghost use Rattle.std.specs.Prelude.{◌≡◌, ◌+◌, [], IfOk, OnOk};
+ghost use Rattle.apd_desk.specs.Counted.{entries_of_seats};
+ghost use Rattle.apd_serve.specs.Entries.{entries_of_all, entries_of_seat};
+
+use crate::environment::{Desk, Environment};
 use crate::fault::ServeFault;
-use apd_site::read_to_its_end;
-use std::alloc::Global;
+use crate::host::Host;
+use crate::started::StartedWorld;
+use crate::threads::work_until_end;
+use crate::worker::Worker;
+use apd_desk::{Clock, Gate, Port, SEATS, Seat, Shared};
+use apd_disk::Disk;
+use apd_flusher::Committer;
+use apd_radio::Radio;
+use apd_slot::Slot;
+use log::Log;
+use std::alloc::AllocError;
 use std::io::Read;
+use std::net::Net;
 use std::sync::Wait;
-use std::thread::{self, JoinHandle, Scope, Threads};
-use std::time::Clock;
+use std::sync::ledger::{Blank, Ledger};
+use std::time;
 
-/// What one thread does, with what it owns.
-pub(crate) trait Job<X> {
-    /// Works until it is told to stop, and gives back what it owns.
-    fn work(self, shared: &X) -> Self;
+/// The workers round a shared core, with room for their seats.
+#[derive(Drop)]
+pub(crate) struct Crew<'a, L: Ledger, W, C, G, D: Disk + Drop, R: Radio, P: Port + Drop> {
+    desk: Desk<'a, L, W, C, G>,
+    workers: Vec<Worker<L, D, R, P>>,
+    seats: Vec<Seat<L>>,
+    ghost none: { seats.items ≡ [] },
 }
 
-/// What the threads share.
-pub(crate) trait Stops {
-    /// Logs that each job has its thread.
-    fn tell_started(&self);
-
-    /// Tells those that work to stop.
-    fn stop(&self);
+// A seat for one more worker.
+fn take_seat<L: Ledger, W: Wait, C, G>(desk: &Desk<'_, L, W, C, G>) -> Result<Seat<L>, ServeFault> {
+    desk.shared
+        .seat(desk.environment.rt)
+        .ok_or(ServeFault::Thread)
 }
 
-// Starts a thread for each job. Tells whether each has one; after the first that can't be made no other is started.
-fn start_all<'s, E, X: Sync + 's, J: Job<X> + Send + Drop + 's>(
-    scope: &Scope<'s, E>,
-    shared: &'s X,
-    jobs: Vec<J>,
-    threads: &mut Vec<JoinHandle<J>>,
-) -> bool {
-    for job in jobs {
-        let Ok(thread) = scope.spawn(move || job.work(shared)) else {
-            return false;
-        };
-        if threads.push(thread).is_err() {
-            return false;
-        }
+fn add<L: Ledger, D: Disk + Drop, R: Radio, P: Port + Drop>(
+    workers: &mut Vec<Worker<L, D, R, P>>,
+    worker: Worker<L, D, R, P>,
+) -> Result<(), AllocError> {
+    workers.push(worker)?;
+    Ok(())
+}
+
+// Adds a worker for each radio. Whether its slot is up is noted.
+fn add_radios<L: Ledger, W: Wait, C, G, D: Disk + Drop, R: Radio, P: Port + Drop>(
+    desk: &Desk<'_, L, W, C, G>,
+    slots: Vec<Slot<R>>,
+    workers: &mut Vec<Worker<L, D, R, P>>,
+) -> Result<(), ServeFault> {
+    for slot in slots {
+        let seat = take_seat(desk)?;
+        desk.shared
+            .note(desk.environment.rt, slot.bssid(), slot.is_up());
+        add(workers, Worker::Radio(seat, slot))?;
     }
-    true
+    Ok(())
 }
 
-/// Does each job in a thread of its own until the input ends or fails, then stops them all, and gives the jobs back
-/// once each thread has ended. It takes its memory before it starts a thread. Once each has one, that is told, and only
-/// then the input is read.
-///
-/// Errors: `Thread` where one can't be made: those that run are stopped, and have ended, and nothing was told;
-/// `NoMemory`, and none was started.
-pub(crate) fn work_until_end<
-    W: Wait + Threads + Clock,
-    X: Stops + Sync,
-    J: Job<X> + Send + Drop,
-    B: Read,
->(rt: &W, alloc: Global, shared: &X, jobs: Vec<J>, reader: &mut B) -> Result<Vec<J>, ServeFault> {
-    let mut threads = Vec::with_capacity(alloc, jobs.len())?;
-    let mut ended = Vec::with_capacity(alloc, jobs.len())?;
-    let all = thread::scope(thread::scope_env(), rt, |scope| {
-        let started = start_all(scope, shared, jobs, &mut threads);
-        if started {
-            shared.tell_started();
-            read_to_its_end(rt, reader);
-        }
-        shared.stop();
-        for thread in threads {
-            if ended.push(thread.join(rt)).is_err() {
-                return false;
+// Adds the worker of the control port, and that of ticks.
+fn add_others<L: Ledger, W: Wait, C, G, D: Disk + Drop, R: Radio, P: Port + Drop>(
+    desk: &Desk<'_, L, W, C, G>,
+    port: P,
+    workers: &mut Vec<Worker<L, D, R, P>>,
+) -> Result<(), ServeFault> {
+    let control = take_seat(desk)?;
+    add(workers, Worker::Control(control, port))?;
+    let ticks = take_seat(desk)?;
+    add(workers, Worker::Ticks(ticks))?;
+    Ok(())
+}
+
+// The workers: one that commits, one for each radio, one for the control port and one for ticks.
+//
+// Errors: `Thread` where there are more than seats; `NoMemory`.
+fn workers_of<L: Ledger, W: Wait, C, G, D: Disk + Drop, R: Radio, P: Port + Drop>(
+    desk: &Desk<'_, L, W, C, G>,
+    committer: Committer<D>,
+    slots: Vec<Slot<R>>,
+    port: P,
+) -> Result<Vec<Worker<L, D, R, P>>, ServeFault> {
+    let mut workers = Vec::new(desk.environment.alloc);
+    add(&mut workers, Worker::Committing(committer))?;
+    add_radios(desk, slots, &mut workers)?;
+    add_others(desk, port, &mut workers)?;
+    Ok(workers)
+}
+
+// Keeps a seat, if there is one.
+fn keep<L: Ledger>(seats: &mut Vec<Seat<L>>, seat: Option<Seat<L>>) -> Result<(), AllocError>
+    ensures { OnOk result (entries_of_seats seats.new.items ≡ entries_of_seats seats.old.items + entries_of_seat seat) }
+{
+    if let Some(seat) = seat {
+        seats.push(seat)?;
+    }
+    Ok(())
+}
+
+// Lets each worker go, in order, and keeps its seat.
+fn dismiss<
+    L: Ledger,
+    W: Wait + time::Clock + Log,
+    C,
+    G: Gate,
+    D: Disk + Drop,
+    R: Radio,
+    P: Port + Drop,
+>(
+    desk: &Desk<'_, L, W, C, G>,
+    workers: Vec<Worker<L, D, R, P>>,
+    seats: &mut Vec<Seat<L>>,
+) -> Result<(), AllocError>
+    ensures { OnOk result
+        (entries_of_seats seats.new.items ≡ entries_of_seats seats.old.items + entries_of_all workers.items) }
+{
+    for worker in workers {
+        keep(seats, worker.leave(desk))?;
+    }
+    Ok(())
+}
+
+impl<
+    'a,
+    L: Ledger + Send + Sync,
+    W: Host + Net<Stream: Send + Sync, Listener: Send + Sync>,
+    C: Clock + Sync,
+    G: Gate + Sync,
+    D: Disk + Drop + Send,
+    R: Radio + Send,
+    P: Port + Drop + Send,
+> Crew<'a, L, W, C, G, D, R, P> {
+    /// The crew of a started world, which is taken apart: a worker that commits, one for each radio, one for the control
+    /// port and one for ticks. They share the world's core over the ledger of this blank.
+    ///
+    /// Errors: `Thread` where there are more workers than seats; `NoMemory`.
+    pub(crate) fn new(
+        environment: &'a Environment<'a, W, C, G>,
+        blank: Blank,
+        world: StartedWorld<D, R>,
+        port: P,
+    ) -> Result<Crew<'a, L, W, C, G, D, R, P>, ServeFault>
+        requires name { blank.name ≡ L.name }
+        requires parts { blank.parts ≡ L.parts }
+        requires all { blank.parts ≡ SEATS }
+    {
+        let (flusher, core, slots) = world.into_world().into_parts();
+        let shared = Shared::<L>::new(core, blank);
+        let desk = Desk {
+            environment,
+            shared,
+        };
+        let workers = match workers_of(&desk, Committer::new(flusher), slots, port) {
+            Ok(workers) => workers,
+            Err(fault) => {
+                drop(desk);
+                return Err(fault);
+            }
+        };
+        match Vec::with_capacity(environment.alloc, workers.len()) {
+            Ok(seats) => Ok(Crew {
+                desk,
+                workers,
+                seats,
+            }),
+            Err(error) => {
+                drop(workers);
+                drop(desk);
+                Err(error.into())
             }
         }
-        started
-    });
-    if all {
-        Ok(ended)
-    } else {
-        Err(ServeFault::Thread)
     }
-}
 
-/// Does one thing while a thread of its own does another, and gives what it came to once both have ended; none where no
-/// thread can be made, and then neither is done.
-pub(crate) fn run_beside<W: Wait + Threads, T, A: FnOnce() + Send + Drop, B: FnOnce() -> T + Drop>(
-    rt: &W,
-    other: A,
-    own: B,
-) -> Option<T>
-    requires other { A.IsAlwaysCallable other }
-    requires own { B.IsAlwaysCallable own }
-{
-    thread::scope(
-        thread::scope_env(),
-        rt,
-        |scope|
-            requires other { A.IsAlwaysCallable other }
-            requires own { B.IsAlwaysCallable own }
-        {
-            let Ok(thread) = scope.spawn(other) else {
-                return None;
-            };
-            let answer = own();
-            thread.join(rt);
-            Some(answer)
-        },
-    )
+    /// Has each worker work in a thread of its own until the input ends.
+    ///
+    /// Errors: those of `work_until_end`.
+    pub(crate) fn work<B: Read>(
+        self,
+        reader: &mut B,
+    ) -> Result<Crew<'a, L, W, C, G, D, R, P>, ServeFault> {
+        let Crew {
+            desk,
+            workers,
+            seats,
+            ..
+        } = self;
+        let Environment { rt, alloc, .. } = desk.environment;
+        match work_until_end(*rt, *alloc, &desk, workers, reader) {
+            Ok(workers) => Ok(Crew {
+                desk,
+                workers,
+                seats,
+            }),
+            Err(fault) => {
+                drop(seats);
+                drop(desk);
+                Err(fault)
+            }
+        }
+    }
+
+    /// How many entries the workers accepted. The first of them commits what no commit had yet; each of the others hands
+    /// out once more what was settled.
+    ///
+    /// Errors: `Thread` where a seat is missing; `NoMemory`, which can't come where the seats have room for all.
+    pub(crate) fn close(self) -> Result<u64, ServeFault>
+        requires { L.parts ≡ SEATS }
+        ensures { IfOk result (λ entries. entries ≡ entries_of_all self.entry.workers.items) }
+    {
+        let Crew {
+            desk,
+            workers,
+            seats,
+            ..
+        } = self;
+        let mut seats = seats;
+        let dismissed = dismiss(&desk, workers, &mut seats);
+        let Desk { shared, .. } = desk;
+        match dismissed {
+            Ok(()) => match shared.close(seats) {
+                Ok((core, entries)) => {
+                    drop(core);
+                    Ok(entries)
+                }
+                Err((shared, seats)) => {
+                    drop(seats);
+                    drop(shared);
+                    Err(ServeFault::Thread)
+                }
+            },
+            Err(error) => {
+                drop(seats);
+                drop(shared);
+                Err(error.into())
+            }
+        }
+    }
 }

@@ -5,47 +5,22 @@ ghost use Rattle.apd_desk.specs.Holding.{IsLed};
 ghost use Rattle.apd_serve.specs.Entries.{entries_of, entries_of_seat};
 ghost use Rattle.apd_serve.specs.Worked.{HasWorked};
 
-use crate::crew::{Job, Stops};
+use crate::environment::{Desk, Environment};
 use crate::handing_out::{hand_out, reply_last};
+use crate::threads::Job;
 use apd_desk::{
-    Clock, Ending, Gate, Port, Seat, Shared, commit_all, control_worker, radio_worker, tick_worker,
+    Clock, Ending, Gate, Port, Seat, commit_all, control_worker, radio_worker, tick_worker,
 };
 use apd_disk::Disk;
 use apd_flusher::{Committer, Phase};
 use apd_radio::Radio;
-use apd_site::{Alarm, tell_device_fault, tell_served, tell_worn_out};
+use apd_site::{Alarm, tell_device_fault, tell_worn_out};
 use apd_slot::Slot;
 use log::Log;
-use std::alloc::Global;
 use std::net::Net;
 use std::sync::Wait;
 use std::sync::ledger::Ledger;
 use std::time;
-
-/// What the workers share.
-#[derive(Drop)]
-pub(crate) struct Environment<'a, L: Ledger, W, C, G> {
-    pub(crate) rt: &'a W,
-    pub(crate) alloc: Global,
-    pub(crate) shared: &'a Shared<L>,
-    pub(crate) clock: &'a C,
-    pub(crate) gate: &'a G,
-    pub(crate) alarm: &'a Alarm,
-    // What is served, in words, where that is to be told.
-    pub(crate) served: Option<&'a str>,
-}
-
-impl<L: Ledger, W: Wait + Log, C, G> Stops for Environment<'_, L, W, C, G> {
-    fn tell_started(&self) {
-        if let Some(words) = self.served {
-            tell_served(self.rt, words);
-        }
-    }
-
-    fn stop(&self) {
-        self.shared.stop(self.rt);
-    }
-}
 
 /// A worker, by what it owns.
 #[derive(Drop)]
@@ -69,36 +44,36 @@ impl<
     W: Wait + time::Clock + Log + Net,
     C: Clock,
     G: Gate,
-> Job<Environment<'a, L, W, C, G>> for Worker<L, D, R, P> {
-    fn work(self, environment: &Environment<'a, L, W, C, G>) -> Worker<L, D, R, P>
+> Job<Desk<'a, L, W, C, G>> for Worker<L, D, R, P> {
+    fn work(self, desk: &Desk<'a, L, W, C, G>) -> Worker<L, D, R, P>
         ensures entries { entries_of self ≤ entries_of result }
         ensures worked { HasWorked D.model R.model self result }
     {
+        let Desk {
+            environment,
+            shared,
+        } = desk;
         let Environment {
             rt,
             alloc,
-            shared,
             clock,
             gate,
-            alarm,
             ..
-        } = environment;
+        } = *environment;
         match self {
-            Worker::Committing(committer) => {
-                Worker::Committing(commit(*rt, *shared, committer, *gate, *alarm))
-            }
+            Worker::Committing(committer) => Worker::Committing(commit(desk, committer)),
             Worker::Radio(seat, slot) => {
                 let none = Vec::new(*alloc);
                 let (seat, slot) = radio_worker(
-                    *rt, *alloc, *shared, seat, slot, *clock, none, *gate,
+                    *rt, *alloc, shared, seat, slot, *clock, none, *gate,
                 );
                 Worker::Radio(seat, slot)
             }
             Worker::Control(seat, port) => {
-                let (seat, port) = control_worker(*rt, *alloc, *shared, seat, port, *clock, *gate);
+                let (seat, port) = control_worker(*rt, *alloc, shared, seat, port, *clock, *gate);
                 Worker::Control(seat, port)
             }
-            Worker::Ticks(seat) => Worker::Ticks(tick_worker(*rt, *shared, seat, *clock, *gate)),
+            Worker::Ticks(seat) => Worker::Ticks(tick_worker(*rt, shared, seat, *clock, *gate)),
         }
     }
 }
@@ -121,50 +96,48 @@ fn tell_refusal<W: Log>(rt: &W, phase: Phase, alarm: &Alarm) {
 
 // Commits until a stop, or until the store refuses, and gives back what is left: a batch or a receipt that was refused
 // waits there. That the device failed, or the store is worn out, is told when it comes.
-fn commit<L: Ledger, W: Wait + time::Clock + Log, D: Disk, G: Gate>(
-    rt: &W,
-    shared: &Shared<L>,
+fn commit<L: Ledger, W: Wait + time::Clock + Log, C, G: Gate, D: Disk>(
+    desk: &Desk<'_, L, W, C, G>,
     committer: Committer<D>,
-    gate: &G,
-    alarm: &Alarm,
 ) -> Committer<D>
     ensures led { IsLed D.model committer result }
     ensures keeps { Keeps D.model committer result }
 {
+    let Environment {
+        rt,
+        gate,
+        alarm,
+        ..
+    } = desk.environment;
     let mut committer = committer;
     let had_refused = has_refused(&committer);
-    let ending = commit_all(rt, shared, &mut committer, gate);
+    let ending = commit_all(*rt, &desk.shared, &mut committer, *gate);
     if ending == Ending::Refused && !had_refused {
-        tell_refusal(rt, committer.phase(), alarm);
+        tell_refusal(*rt, committer.phase(), *alarm);
     }
     committer
 }
 
 impl<L: Ledger, D: Disk + Drop, R: Radio, P: Port + Drop> Worker<L, D, R, P> {
     // Does once more what it is for: commits what was accepted since it looked last, or hands out what was settled.
-    fn finish<W: Wait + time::Clock + Log, G: Gate>(
+    fn finish<W: Wait + time::Clock + Log, C, G: Gate>(
         self,
-        rt: &W,
-        alloc: Global,
-        shared: &Shared<L>,
-        gate: &G,
-        alarm: &Alarm,
+        desk: &Desk<'_, L, W, C, G>,
     ) -> Worker<L, D, R, P>
         ensures entries { entries_of result ≡ entries_of self }
         ensures worked { HasWorked D.model R.model self result }
     {
+        let Environment { rt, alloc, .. } = desk.environment;
         match self {
-            Worker::Committing(committer) => {
-                Worker::Committing(commit(rt, shared, committer, gate, alarm))
-            }
+            Worker::Committing(committer) => Worker::Committing(commit(desk, committer)),
             Worker::Radio(seat, slot) => {
                 let (mut seat, mut slot) = (seat, slot);
-                hand_out(rt, alloc, shared, &mut seat, &mut slot);
+                hand_out(*rt, *alloc, &desk.shared, &mut seat, &mut slot);
                 Worker::Radio(seat, slot)
             }
             Worker::Control(seat, port) => {
                 let (mut seat, mut port) = (seat, port);
-                reply_last(rt, shared, &mut seat, &mut port);
+                reply_last(*rt, &desk.shared, &mut seat, &mut port);
                 Worker::Control(seat, port)
             }
             Worker::Ticks(seat) => Worker::Ticks(seat),
@@ -193,16 +166,12 @@ impl<L: Ledger, D: Disk + Drop, R: Radio, P: Port + Drop> Worker<L, D, R, P> {
     }
 
     /// Does once more what it is for. Then it lets go what it owns, and gives its seat, if it has one.
-    pub(crate) fn leave<W: Wait + time::Clock + Log, G: Gate>(
+    pub(crate) fn leave<W: Wait + time::Clock + Log, C, G: Gate>(
         self,
-        rt: &W,
-        alloc: Global,
-        shared: &Shared<L>,
-        gate: &G,
-        alarm: &Alarm,
+        desk: &Desk<'_, L, W, C, G>,
     ) -> Option<Seat<L>>
         ensures { entries_of_seat result ≡ entries_of self }
     {
-        self.finish(rt, alloc, shared, gate, alarm).into_seat()
+        self.finish(desk).into_seat()
     }
 }

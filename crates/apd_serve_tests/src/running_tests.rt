@@ -7,7 +7,7 @@ use crate::talk::{
     SECOND_AUTHENTICATED, SECOND_AUTHENTICATION, SECOND_RADIO, Talk, free_ports,
 };
 use apd_conf::Confs;
-use apd_disk::FileDisk;
+use apd_disk::{FileDisk, FileRecord};
 use apd_serve::{RunFault, run};
 use apd_site::Site;
 use apd_store::recover;
@@ -103,7 +103,7 @@ where
     R::Listener: Send + Sync,
 {
     let site = site(store, port, None, recordings, configurations, false);
-    run(rt, confs, &site, reader)
+    run(rt, confs, &site, FileRecord::new(), reader)
 }
 
 /// Ends the test where `run` answers anything else: the number of entries, or the fault, as text.
@@ -130,7 +130,7 @@ where
     R::Listener: Send + Sync,
 {
     let mut talk = talk;
-    let answer = run(rt, confs, site, &mut talk);
+    let answer = run(rt, confs, site, FileRecord::new(), &mut talk);
     let said = talk.said_count();
     let lines = talk.line_count();
     drop(talk);

@@ -42,6 +42,7 @@ returns-in-Ok-clause-at g c =
     record {
       heard = heard_at _ _ _ _ begun.core begun.heard;
       slots = λ enough. resumed.same ∙ c.in_ok-slots.ensures.bssids enough;
+      radios_are = λ enough. c.in-Ok.ensures.frames ∙ c.in_ok-slots.ensures.frames enough;
       resumed = resumed.resumed;
       following = resumed.following;
     }

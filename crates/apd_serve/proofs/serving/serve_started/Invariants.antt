@@ -1,4 +1,4 @@
 use Rattle.apd_serve.proofs.serving.serve_started.Given as goal
 
-abbrev pub ghosts-run_crew : goal.ghosts-run_crew
-ghosts-run_crew g a = record { name = a.blank.name; parts = a.blank.parts }
+abbrev pub ghosts-serve_crew : goal.ghosts-serve_crew
+ghosts-serve_crew g a = record { name = a.blank.name; parts = a.blank.parts }

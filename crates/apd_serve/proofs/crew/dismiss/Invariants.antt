@@ -2,7 +2,7 @@ use Rattle.std.proofs.Common.{◌≡◌, ◌+◌, length}
 use Rattle.std.specs.Vec.Iter.{into_iter_items, into_iter_len}
 use Rattle.apd_desk.specs.Counted.{entries_of_seats}
 use Rattle.apd_serve.specs.Entries.{entries_of_all}
-use Rattle.apd_serve.proofs.serving.dismiss.Given as goal
+use Rattle.apd_serve.proofs.crew.dismiss.Given as goal
 
 abbrev pub invariant-loop-worker : goal.invariant-loop-worker
 invariant-loop-worker g l =

@@ -2,7 +2,7 @@ use Rattle.std.proofs.Common.{◌≡◌, ◌∷◌, [], List, length, refl, ap, 
 use Rattle.std.specs.Vec.Iter.{into_iter_items}
 use Rattle.std.proofs.lemmas.List.Sums.{sum_by-cons}
 use Rattle.apd_serve.specs.Entries.{entries_of, entries_of_all}
-use Rattle.apd_serve.proofs.serving.dismiss.Goals as goal
+use Rattle.apd_serve.proofs.crew.dismiss.Goals as goal
 
 nothing_left : {X : Type 0} (l : List X) → length l ≡ 0 → l ≡ []
 nothing_left [] h = refl

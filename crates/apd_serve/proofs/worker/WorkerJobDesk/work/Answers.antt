@@ -3,7 +3,7 @@ use Rattle.apd_serve.specs.Worked.{HasWorked}
 use Rattle.apd_serve.specs.declared.worker.Worker.{Worker}
 use Rattle.apd_serve.specs.declared.worker.Worker.TheVariants.{Committing, Radio, Control, Ticks}
 use Rattle.apd_serve.proofs.Working.{has_committed, has_replied, has_served, has_ticked}
-use Rattle.apd_serve.proofs.worker.WorkerJobEnvironment.work.Goals as goal
+use Rattle.apd_serve.proofs.worker.WorkerJobDesk.work.Goals as goal
 
 pub returns-in-Committing-clause-worked : goal.returns-in-Committing-clause-worked
 returns-in-Committing-clause-worked g c =
