@@ -22,7 +22,7 @@ joins() {
     done
 }
 
-# The calls of ten stations that join, a letter each: W a write of the store, S a sync, D a word that the system may
+# The calls of ten stations that join, a letter each: W a write of the store, S a sync, D the advice that the system
 # drop what it holds of the file, E a request that became an entry, T a frame that is told of. Recovery syncs once and
 # drops; a commit writes, syncs, writes its gate and syncs, and is then told of. The first commit is that of the start.
 calls() {
@@ -31,7 +31,7 @@ calls() {
     strace -f -qq -e trace=pwrite64,fdatasync,fadvise64,write -e signal=none -o "$folder/calls" \
         "$program" script --store "$store" <"$folder/script" >/dev/null
     sed -n -e 's/.* pwrite64(.*/W/p' -e 's/.* fdatasync(.* = 0$/S/p' \
-        -e 's/.* fadvise64(.* = 0$/D/p' -e 's/.* write(1, "entry.*/E/p' \
+        -e 's/.* fadvise64(.*, POSIX_FADV_DONTNEED) = 0$/D/p' -e 's/.* write(1, "entry.*/E/p' \
         -e 's/.* write(1, "wlan0 tx.*/T/p' "$folder/calls" | tr -d '\n'
 }
 

@@ -1,8 +1,10 @@
 #!/bin/sh
 # Has apd run meet what its log tells of, and compares the log line by line: list files that don't count, a store that is
 # cut or grows, a recording that ends, stations and lists (--log-stations), the time (--log-time); a driver that fails, and
-# what comes from elsewhere (--drivers); and a device that fails, by strace, with and without --end-at-fault. It also tries
-# the script that docs/SCRIPTS.md makes of a recording.
+# what comes from elsewhere (--drivers); and a device that hangs, and one that fails, by strace, with and without
+# --end-at-fault. It also tries the script that docs/SCRIPTS.md makes of a recording. And it has strace hold the program
+# at calls behind which something else must have been done already: between a store's lock and its watch, before a reply,
+# at a commit when the input ends, behind the call that wakes who waits for a fault.
 # Use: tests/log.sh, from anywhere. APD names the program. It ends with status 1 at the first line that is another one.
 here=$(dirname "$(readlink -f "$0")")
 . "$here/testing"
@@ -15,10 +17,13 @@ port=$("$here/free-ports" 3)
 printf 'interface=wlan0\nbssid=02:00:00:00:00:01\nssid=net\n' >conf
 printf 'interface=wlan1\nbssid=02:00:00:00:00:02\nssid=net\naccept_mac_file=accept\ndeny_mac_file=deny\n' >listed
 printf 'interface=wlan1\nbssid=02:00:00:00:00:02\nssid=net\n' >second
+printf 'interface=wlan0\nbssid=02:00:00:00:00:01\nssid=net\naccept_mac_file=thousand\n' >full
+awk 'BEGIN { for (i = 0; i < 1024; i++) printf "02:00:01:00:%02x:%02x\n", i / 256, i % 256 }' >thousand
 printf '02:00:00:00:00:ac\n' >accept
 : >deny
 
 python3 - "$program" "$port" "$here/../docs/SCRIPTS.md" <<'END'
+import fcntl
 import os
 import re
 import resource
@@ -56,7 +61,8 @@ class Run:
     def __init__(self, *words, store="store", under=(), **how):
         words = [*under, program, "run", "--store", store, "--port", str(port), *words]
         self.log = open("log", "w+")
-        self.process = subprocess.Popen(words, stdin=subprocess.PIPE, stdout=self.log, stderr=self.log, **how)
+        how = {"stdin": subprocess.PIPE, "stdout": self.log, "stderr": self.log} | how
+        self.process = subprocess.Popen(words, **how)
         self.socket = socket.socket(socket.AF_INET, socket.SOCK_DGRAM)
         self.socket.settimeout(20)
         self.wait_for("] serves commands")
@@ -85,17 +91,34 @@ class Run:
         self.process.stdin.close()
         return self.process.wait(20)
 
-    def wants(self, what, lines, status=0, key=None):
-        """Ends the test where the log has other lines, or the status is another one. With a key lines are sorted by it:
-        what two threads tell comes in any order."""
+    def wants(self, what, lines, status=0, key=None, read=str):
+        """Ends the test where the log has other lines, each as it is read, or the status is another one. With a key lines
+        are sorted by it: what two threads tell comes in any order."""
         if self.process.stdin.closed:
             at = next(at for at, line in enumerate(lines) if "] entries " in line)
             lines = [*lines[:at], ENDED, *lines[at:]]
-        found, lines = (sorted(them, key=key) if key else them for them in (self.lines(), lines))
+        found = [read(line) for line in self.lines()]
+        found, lines = (sorted(them, key=key) if key else them for them in (found, lines))
         if found != lines or self.process.returncode != status:
             die(f"{what}: status {self.process.returncode}, and it says\n{chr(10).join(found)}\nwanted:\n"
                 + "\n".join(lines))
         print(f"{what}: {lines[-3] if len(lines) > 2 else lines[-1]}")
+
+
+def strace(*injected):
+    """The words by which strace does this to calls."""
+    calls = ",".join(each.split(":")[0] for each in injected)
+    inject = [word for each in injected for word in ("-e", f"inject={each}")]
+    return ["strace", "-f", "-qq", "-o", "/dev/null", "-e", f"trace={calls}", *inject]
+
+
+def is_locked(name):
+    with open(name) as it:
+        try:
+            fcntl.flock(it, fcntl.LOCK_SH | fcntl.LOCK_NB)
+        except BlockingIOError:
+            return True
+    return False
 
 
 def new_store(name="store"):
@@ -159,6 +182,32 @@ run.wants("--log-stations", [
     "[INFO  apd] entries 10",
 ], key=lambda line: "_ACL" in line)
 
+# An edit is told behind its reply: where that is held for a while, the line comes no sooner.
+new_store()
+run = Run("--log-stations", "conf", under=strace("sendto:delay_enter=500000"))
+run.send(b"DENY_ACL CLEAR", 0)
+run.wait_for("DENY_ACL CLEAR")
+run.socket.setblocking(False)
+try:
+    reply = run.socket.recv(65536)
+except BlockingIOError:
+    reply = None
+if reply != b"OK\n":
+    die(f"an edit is told before its reply: {reply}")
+run.end()
+run.wants("an edit", [SERVES + "0", "[INFO  apd] wlan0: DENY_ACL CLEAR", "[INFO  apd] entries 1"])
+
+# What is committed only once the input has ended is replied to as it is meant: no address more comes to a full list. (The
+# order was accepted where the ping behind it is answered.)
+new_store()
+run = Run("full", under=strace("fdatasync:delay_enter=500000"))
+run.send(b"ACCEPT_ACL ADD_MAC 02:00:00:00:00:ab", 0)
+if run.ask(b"PING", 0) != b"PONG\n":
+    die("a full list: no answer")
+if run.end() != 0 or run.socket.recv(65536) != b"FAIL\n":
+    die("a full list: the last reply is another one")
+print(f"a full list: {run.lines()[-1]}")
+
 # List files, at the first start on a store and at the next one.
 new_store()
 serves = SERVES.replace("wlan0", "wlan1")
@@ -189,6 +238,19 @@ for length, text in [
     run.wants(f"a length of {length}", [SERVES + "0", f"[ERROR apd] other {text}", "[INFO  apd] entries 0"])
     os.remove("other")
 
+# A store that gets another name while it is opened, between its lock and what watches it. (Each sync takes a while.)
+new_store()
+new_store("other")
+words = [*strace("fdatasync:delay_enter=5000000"), program, "run", "--store", "store", "--port", str(port), "conf"]
+start = subprocess.Popen(words, stdin=subprocess.DEVNULL, stderr=subprocess.PIPE, text=True)
+while not is_locked("store"):
+    time.sleep(0.01)
+os.rename("other", "store")
+said = start.communicate(timeout=60)[1]
+if start.returncode != 1 or said.splitlines()[0] != "apd: cannot read store":
+    die(f"a store that gets another name while it is opened: {said}")
+print(f"a store that gets another name while it is opened: {said.splitlines()[0]}")
+
 # A recording becomes a script by the page's own two lines, and the script asks for what the radio was asked for.
 new_store("before.store")
 shutil.copy("before.store", "store")
@@ -206,19 +268,25 @@ if found != wanted or len(wanted) != 3:
     die(f"a script of a recording: {done}; wanted: {wanted}")
 print(f"a script of a recording: {found[1]}")
 
-# A recording that can't be emptied is told before a port that is taken, and a refused start empties none.
+# A recording that can't be emptied is told before a port that is taken, and a refused start empties none. Where it can be
+# emptied at first, and not when it is to be, that is told too.
 new_store()
 open("kept.0", "w").write("down\n")
 taken = socket.socket(socket.AF_INET, socket.SOCK_DGRAM)
 taken.bind(("127.0.0.1", port))
 start = [program, "run", "--record", "kept", "--store", "store", "--port", str(port), "conf"]
-for under, fault in (["strace", "-f", "-qq", "-o", "/dev/null", "-e", "inject=ftruncate:error=EPERM"],
+for under, fault in (strace("ftruncate:error=EPERM"),
                      "apd: cannot read kept.0"), ([], "apd: no socket"):
     done = subprocess.run([*under, *start], stdin=subprocess.DEVNULL, capture_output=True, timeout=20, text=True)
     if done.returncode != 1 or done.stderr.splitlines()[0] != fault or open("kept.0").read() != "down\n":
         die(f"a recording that can't be emptied: {done}; wanted: {fault}")
     print(f"a recording before its port: {fault}")
 taken.close()
+done = subprocess.run([*strace("ftruncate:error=EPERM:when=2"), *start], stdin=subprocess.DEVNULL, capture_output=True,
+                      timeout=20, text=True)
+if done.returncode != 1 or done.stderr.splitlines()[0] != "apd: cannot read kept.0":
+    die(f"a recording that can't be emptied behind its port: {done}")
+print(f"a recording behind its port: {done.stderr.splitlines()[0]}")
 
 # A recording that reaches a limit on files, which is above a store's length.
 def limit():
@@ -298,9 +366,31 @@ if done.returncode != 2 or done.stderr.splitlines()[0] != clash:
     die(f"--drivers at the daemon's ports: {done}")
 print(f"--drivers {port + 8}: {clash}")
 
+# A sync that hangs, once it serves: it is told while it does, and that it went on. A query is answered meanwhile.
+HANGING = strace("fdatasync:delay_enter=3000000:when=4")
+HANGS = "[WARN  apd] the store has not answered for N s: what waits for it is answered once it does"
+WENT_ON = "[WARN  apd] the store answers again, after N s"
+
+new_store()
+run = Run("--log-stations", "conf", under=HANGING)
+run.ask(frame(AUTHENTICATION, "aa"), 1)
+run.send(frame(ASSOCIATION, "aa"), 1)
+run.wait_for("has not answered")
+other = socket.socket(socket.AF_INET, socket.SOCK_DGRAM)
+other.settimeout(20)
+other.sendto(b"STATUS", ("127.0.0.1", port))
+if not other.recv(65536).startswith(b"state=ENABLED\n") or any("answers again" in line for line in run.lines()):
+    die(f"a sync that hangs: {run.lines()}")
+run.socket.recv(65536)
+run.wait_for("answers again")
+run.end()
+run.wants("a sync that hangs", [
+    SERVES + "0", HANGS, WENT_ON, "[INFO  apd] wlan0: 02:00:00:00:00:aa associated, identifier 1", "[INFO  apd] entries 2",
+], key=lambda line: "the store " in line, read=lambda line: re.sub(r"(?<=(for|ter) )[1-9]\d*(?= s)", "N", line))
+
 # A sync that fails, once it serves. strace counts by threads: the first one makes one at the recovery and two at the start;
 # that which commits, two for the authentication, and the fourth is the association's second.
-FAILING = ["strace", "-f", "-qq", "-o", "/dev/null", "-e", "trace=fdatasync", "-e", "inject=fdatasync:error=EIO:when=4+"]
+FAILING = strace("fdatasync:error=EIO:when=4+")
 
 new_store()
 run = Run("--log-stations", "conf", under=FAILING)
@@ -327,6 +417,19 @@ except subprocess.TimeoutExpired:
 run.wants("--end-at-fault", [SERVES + "0", FAULT, FAILED, "[INFO  apd] entries 2", "apd: device fault"], 1,
           key=lambda line: line == FAILED)
 
+# The same where the thread that tells of the fault goes on only a while behind the call that wakes the one that waits.
+new_store()
+run = Run("--end-at-fault", "conf", under=strace("fdatasync:error=EIO:when=4+", "write:delay_exit=300000"))
+run.ask(frame(AUTHENTICATION, "aa"), 1)
+run.send(frame(ASSOCIATION, "aa"), 1)
+try:
+    run.process.wait(30)
+except subprocess.TimeoutExpired:
+    run.process.kill()
+    die("--end-at-fault: a fault that was told wakes nobody")
+run.wants("--end-at-fault", [SERVES + "0", FAULT, FAILED, "[INFO  apd] entries 2", "apd: device fault"], 1,
+          key=lambda line: line == FAILED)
+
 # Where a thread can't be had, one for the log, one for what is watched and one for each worker, it never says that it serves.
 new_store()
 for made in range(1, 7):
@@ -350,6 +453,25 @@ run.process.stdin.flush()
 time.sleep(0.5)
 if run.process.poll() is not None:
     die("--end-at-fault: it ended by its input's bytes")
+# A process that is stopped, and goes on, meets calls that were interrupted.
+for sent in signal.SIGSTOP, signal.SIGCONT:
+    run.process.send_signal(sent)
+    time.sleep(0.5)
+if run.process.poll() is not None or run.ask(b"PING", 0) != b"PONG\n":
+    die("--end-at-fault: it ended as it was stopped and went on")
 run.end()
 run.wants("--end-at-fault without a fault", [SERVES + "0", "[INFO  apd] entries 0"])
+
+# A read of the input that is interrupted is none that ends it.
+os.mkfifo("input")
+reader = os.open("input", os.O_RDONLY | os.O_NONBLOCK)
+writer = os.open("input", os.O_WRONLY)
+os.set_blocking(reader, True)
+run = Run("conf", under=[*strace("read:error=EINTR:when=1"), "-P", "input"], stdin=reader)
+time.sleep(0.5)
+if run.ask(b"PING", 0) != b"PONG\n":
+    die("it ended as a read of its input was interrupted")
+os.close(writer)
+run.process.wait(20)
+print(f"an interrupted read: {run.lines()[-1]}")
 END

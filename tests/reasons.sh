@@ -39,6 +39,7 @@ printf 'interface=wlan1\nbssid=02:00:00:00:00:02\nssid=net\n' >other
 # Files.
 wants "$(unread none 'not there')" check none
 wants "$(unread none 'not there')" script --store none
+wants "$(unread '' 'not there')" script --store ''
 wants "$(unread none 'not there')" run --store none --port "$port" conf
 wants "$(unread none 'not there')" run --store store --port "$port" none
 wants "$(unread none/store 'its folder is not there')" format --missing none/store
@@ -141,6 +142,31 @@ wants "$(unread rec.0 'it begins as a store does, so nothing is recorded over it
 cp conf conf.0
 wants "$(unread conf.0 'the store, a configuration or a list, so nothing is recorded over it')" \
     run --store store --port "$port" --record conf conf.0
+# A link is the file that it leads to, and a list is kept as a configuration is.
+cp conf real.0
+ln -s real.0 linked
+for list in accept deny; do
+    cp conf with_"$list"
+    echo "${list}_mac_file=$list.0" >>with_"$list"
+    echo 02:00:00:00:00:aa >"$list.0"
+done
+for words in "real linked" "accept with_accept" "deny with_deny"; do
+    # shellcheck disable=SC2086
+    wants "$(unread "${words% *}.0" 'the store, a configuration or a list, so nothing is recorded over it')" \
+        run --store store --port "$port" --record $words
+    [ -s "${words% *}.0" ]
+done
+# Two files that have one number, on two devices.
+mkdir one two
+if mount -t tmpfs none one 2>/dev/null && mount -t tmpfs none two 2>/dev/null; then
+    cp conf one/it
+    : >two/it.0
+    if [ "$(stat -c %i one/it)" = "$(stat -c %i two/it.0)" ]; then
+        "$program" run --store store --port "$port" --record two/it one/it </dev/null 2>found
+        echo "two files of one number: $(tail -n 1 found)"
+    fi
+    umount one two
+fi
 limit="prlimit --nofile=7"
 wants "$(unread it.0 'too many open files (ulimit -n)')" \
     run --end-at-fault --store store --port "$port" --record it conf
@@ -223,4 +249,7 @@ grep -qF '"net' status
 printf '[WARN  apd] %s\n' "wlan0: the quotes belong to the ssid, as it is given" \
     "wlan1: the ssid ends in a blank, as it is given" >wanted
 cmp wanted found
+"$program" run --store store --port "$port" quoted </dev/null 2>served
+head -n 1 wanted >first
+head -n 1 served | cmp - first
 echo "quoted ssid: taken, with a warning"

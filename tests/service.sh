@@ -2,12 +2,13 @@
 # Ends apd-service a hundred times at random moments, many of them in its first 20 milliseconds: by one signal, by two
 # at once, and by signals to all of its processes. Where the program began, the status must be the program's; else 128
 # and the signal's number. No process and no file may be left. Then it is given a log that nobody reads, and one of many
-# lines; it tells systemd when it serves, and which faults may be over by themselves; and it serves by the program itself.
+# lines; it tells systemd when it serves, and which faults may be over by themselves; and it serves by the program itself,
+# of which systemd is told once each thread is there, and not where one can't be had.
 # Use: tests/service.sh, from anywhere. APD names the program, SERVICE another apd-service; SEED, a number, the
 # moments. It ends with status 1 at the first run that shows anything else.
 here=$(dirname "$(readlink -f "$0")")
 . "$here/testing"
-needs python3
+needs python3 strace
 port=$("$here/free-ports" 2)
 printf 'interface=wlan0\nbssid=02:00:00:00:00:01\nssid=net\n' >conf
 "$program" format store >/dev/null
@@ -31,12 +32,17 @@ sys.stdin.read()
 print(os.environ["FAULT"], file=sys.stderr)
 sys.exit(1)
 END
+# The program, where its last thread can't be had.
+cat >threadless <<'END'
+#!/bin/sh
+exec strace -f -qq -o /dev/null -e inject=clone3,clone:error=EAGAIN:when=6 "$PROGRAM" "$@"
+END
 mkdir bin
 cat >bin/systemd-notify <<'END'
 #!/bin/sh
 echo "$NOTIFY_SOCKET $*" >>told
 END
-chmod +x stub talker bin/systemd-notify
+chmod +x stub talker threadless bin/systemd-notify
 
 python3 - "${SERVICE:-$here/../tools/apd-service}" "$program" "$port" "${SEED:-$$}" <<'END'
 import os
@@ -185,6 +191,22 @@ for number, sent in enumerate([*SIGNALS, signal.SIGTERM]):
     if status != 0 or left() or "entries" not in log.read_text():
         fail(run, f"{sent.name} to the program: status {status}")
     print(f"served until {sent.name}: status 0")
+
+# Systemd is told of the program itself: where the last thread can't be had, nothing.
+told.unlink()
+os.environ.update(NOTIFY_SOCKET="somewhere", PROGRAM=program)
+words = ["run", "--store", f"{here}/store", "--port", port, f"{here}/conf"]
+status = end(begin(f"{here}/threadless", *words), "no thread")
+if status != 75 or left() or told.exists():
+    fail(None, f"no thread: status {status}, systemd told: {told.exists()}")
+run = begin(program, *words)
+await_file(told, run)
+run.send_signal(signal.SIGTERM)
+status = end(run, "systemd")
+if status != 0 or left() or told.read_text() != "somewhere --ready\n":
+    fail(run, f"systemd: status {status}, told {told.read_text()}")
+del os.environ["NOTIFY_SOCKET"]
+print("systemd is told once each thread is there, and nothing where one can't be had")
 for words, wanted in (["check", "missing"], 1), (["run", "--port"], 2):
     status = end(begin(program, *words), " ".join(words))
     if status != wanted or left():

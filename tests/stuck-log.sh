@@ -185,13 +185,13 @@ def full_pipe():
 
 
 def read():
-    """A reader that reads: nothing is lost."""
+    """A reader that reads: nothing is lost. (As many stations as where nobody reads, so that their times compare.)"""
     reads, writes = os.pipe()
     run = Run("a pipe that is read", writes, "--log-stations")
     os.close(writes)
     thread, lines = reader_of(reads)
     run.wait_until_it_serves()
-    run.come_and_go(range(500))
+    run.come_and_go(range(1000))
     run.end()
     thread.join()
     if run.wants(lines) != 0:
