@@ -1,14 +1,12 @@
 //! What several tests use: frames, a core, a flusher, and steps on a shared core.
-ghost use Rattle.std.specs.Prelude.{◌≡◌};
+ghost use Rattle.std.specs.Prelude.{◌≡◌, IfSome};
+ghost use Rattle.apd_desk.specs.Naming.{AreNames};
 
 use apd_base::{Addr, Bssid, Moment};
 use apd_conf::{AddressList, Conf, Confs, InterfaceName};
 use apd_core::{Accepted, Core, Input};
 use apd_ctrl::Query;
-use apd_desk::{
-    Clock, Gate, NoGate, Port, Seat, Shared, control_worker, flush_worker, radio_worker,
-    tick_worker,
-};
+use apd_desk::{Clock, Gate, NoGate, Port, Names, Seat, Shared, control_worker, flush_worker, radio_worker, tick_worker, Entry, Naming};
 use apd_disk::{Disk, MemDisk};
 use apd_flusher::Flusher;
 use apd_radio::Radio;
@@ -18,7 +16,6 @@ use apd_table::Table;
 use std::alloc::Global;
 use std::net::Net;
 use std::sync::Wait;
-use std::sync::ledger::{Blank, Ledger};
 use std::thread::Threads;
 use std::time;
 
@@ -226,37 +223,54 @@ pub(crate) fn memory_flusher(alloc: Global) -> Option<Flusher<MemDisk>> {
     flusher(alloc, blank_disk(alloc)?)
 }
 
+/// A core to be shared, and what it is named by.
+pub(crate) struct Named<E> {
+    pub(crate) core: Core,
+    pub(crate) names: Names<E>,
+}
+
+/// A core, where there is one, with what it is named by alone.
+pub(crate) fn named_core<E: Entry>(alloc: Global, core: Option<Core>) -> Option<Named<E>> {
+    let core = core?;
+    match Names::new(alloc) {
+        Ok(names) => Some(Named { core, names }),
+        Err(_) => {
+            drop(core);
+            None
+        }
+    }
+}
+
 /// A shared core, where there is a core.
-pub(crate) fn share<L: Ledger>(core: Option<Core>, blank: Blank) -> Option<Shared<L>>
-    requires name { blank.name ≡ L.name }
-    requires parts { blank.parts ≡ L.parts }
-    requires all { blank.parts ≡ 65536 }
+pub(crate) fn share<L: Naming, E: Entry>(named: Option<Named<E>>) -> Option<Shared<L, E>>
+    requires names { IfSome named (λ named. AreNames L.seats L.table L.commits named.names) }
+    requires first { IfSome named (λ named. named.core ≡ L.first) }
 {
-    Some(Shared::new(core?, blank))
+    let Named { core, names } = named?;
+    Some(Shared::new(core, names))
 }
 
 /// A new seat, of which nothing is said.
-pub(crate) fn new_seat<L: Ledger, W: Wait>(rt: &W, shared: &Shared<L>) -> Option<Seat<L>> {
+pub(crate) fn new_seat<L: Naming, E: Entry, W: Wait>(rt: &W, shared: &Shared<L, E>) -> Option<Seat<L, E>> {
     shared.seat(rt)
 }
 
 /// Tells all to stop, and says nothing of the shared core then.
-pub(crate) fn stop<L: Ledger, W: Wait>(rt: &W, shared: &Shared<L>) {
+pub(crate) fn stop<L: Naming, E: Entry, W: Wait>(rt: &W, shared: &Shared<L, E>) {
     shared.stop(rt);
 }
 
 /// Closes a shared core with all its seats. The core, and how many entries there were.
-pub(crate) fn close<L: Ledger>(shared: Shared<L>, seats: Vec<Seat<L>>) -> Option<(Core, u64)>
-    requires { L.parts ≡ 65536 }
+pub(crate) fn close<L: Naming, E: Entry>(shared: Shared<L, E>, seats: Vec<Seat<L, E>>) -> Option<(Core, u64)>
 {
     shared.close(seats).ok()
 }
 
 /// Whether a request at a moment becomes an entry by a seat.
-pub(crate) fn submits_at<L: Ledger, W: Wait>(
+pub(crate) fn submits_at<L: Naming, E: Entry, W: Wait>(
     rt: &W,
-    shared: &Shared<L>,
-    seat: &mut Seat<L>,
+    shared: &Shared<L, E>,
+    seat: &mut Seat<L, E>,
     input: Input<'_>,
     moment: Moment,
 ) -> bool {
@@ -267,20 +281,20 @@ pub(crate) fn submits_at<L: Ledger, W: Wait>(
 }
 
 /// Whether a frame becomes an entry by a seat.
-pub(crate) fn submits<L: Ledger, W: Wait>(
+pub(crate) fn submits<L: Naming, E: Entry, W: Wait>(
     rt: &W,
-    shared: &Shared<L>,
-    seat: &mut Seat<L>,
+    shared: &Shared<L, E>,
+    seat: &mut Seat<L, E>,
     frame: &[u8],
 ) -> bool {
     submits_at(rt, shared, seat, Input::Received(WLAN0, frame), Moment(0))
 }
 
 /// Whether that station is there, as a seat is told.
-pub(crate) fn finds_station<L: Ledger, W: Wait>(
+pub(crate) fn finds_station<L: Naming, E: Entry, W: Wait>(
     rt: &W,
-    shared: &Shared<L>,
-    seat: &mut Seat<L>,
+    shared: &Shared<L, E>,
+    seat: &mut Seat<L, E>,
 ) -> bool {
     match shared.ask(rt, seat, Query::First(WLAN0)) {
         Ok(answer) => answer.text() == FIRST,
@@ -288,40 +302,42 @@ pub(crate) fn finds_station<L: Ledger, W: Wait>(
     }
 }
 
-/// Commits until a stop, and says nothing of the flusher then.
-pub(crate) fn commit<L: Ledger, W: Wait + time::Clock, D: Disk + Drop, G: Gate>(
+/// Commits until a stop by the one right to commit, and says nothing of the flusher then.
+pub(crate) fn commit<L: Naming, E: Entry, W: Wait + time::Clock, D: Disk + Drop, G: Gate>(
     rt: &W,
-    shared: &Shared<L>,
+    shared: &Shared<L, E>,
     flusher: Flusher<D>,
     gate: &G,
 ) {
-    drop(flush_worker(rt, shared, flusher, gate));
+    if let Some(right) = shared.commit_right(rt) {
+        drop(flush_worker(rt, shared, right, flusher, gate));
+    }
 }
 
 /// Serves a radio until a stop, and says nothing of its slot then but what it is.
-pub(crate) fn serve_radio<L: Ledger, W: Wait + time::Clock + Net, R: Radio, C: Clock, G: Gate>(
+pub(crate) fn serve_radio<L: Naming, E: Entry, W: Wait + time::Clock + Net, R: Radio, C: Clock, G: Gate>(
     rt: &W,
     alloc: Global,
-    shared: &Shared<L>,
-    seat: Seat<L>,
+    shared: &Shared<L, E>,
+    seat: Seat<L, E>,
     slot: Slot<R>,
     clock: &C,
     spares: Vec<R>,
     gate: &G,
-) -> (Seat<L>, Slot<R>) {
+) -> (Seat<L, E>, Slot<R>) {
     radio_worker(rt, alloc, shared, seat, slot, clock, spares, gate)
 }
 
 /// Serves a radio that has no spare until a stop. Gives the seat back.
-pub(crate) fn serve_alone<L: Ledger, W: Wait + time::Clock + Net, R: Radio, C: Clock, G: Gate>(
+pub(crate) fn serve_alone<L: Naming, E: Entry, W: Wait + time::Clock + Net, R: Radio, C: Clock, G: Gate>(
     rt: &W,
     alloc: Global,
-    shared: &Shared<L>,
-    seat: Seat<L>,
+    shared: &Shared<L, E>,
+    seat: Seat<L, E>,
     radio: R,
     clock: &C,
     gate: &G,
-) -> Seat<L> {
+) -> Seat<L, E> {
     let slot = Slot::new(alloc, radio, WLAN0);
     let (seat, slot) = serve_radio(rt, alloc, shared, seat, slot, clock, Vec::new(alloc), gate);
     drop(slot);
@@ -329,31 +345,31 @@ pub(crate) fn serve_alone<L: Ledger, W: Wait + time::Clock + Net, R: Radio, C: C
 }
 
 /// Serves a control port until a stop, and says nothing of its replies then. Gives both back.
-pub(crate) fn serve_port<L: Ledger, W: Wait + time::Clock + Net, P: Port, G: Gate>(
+pub(crate) fn serve_port<L: Naming, E: Entry, W: Wait + time::Clock + Net, P: Port, G: Gate>(
     rt: &W,
     alloc: Global,
-    shared: &Shared<L>,
-    seat: Seat<L>,
+    shared: &Shared<L, E>,
+    seat: Seat<L, E>,
     port: P,
     gate: &G,
-) -> (Seat<L>, P) {
+) -> (Seat<L, E>, P) {
     control_worker(rt, alloc, shared, seat, port, &Still, gate)
 }
 
 /// Submits no tick until a stop, since its clock stands still. Gives its seat.
-pub(crate) fn serve_ticks<L: Ledger, W: Wait + time::Clock>(
+pub(crate) fn serve_ticks<L: Naming, E: Entry, W: Wait + time::Clock>(
     rt: &W,
-    shared: &Shared<L>,
-) -> Option<Seat<L>> {
+    shared: &Shared<L, E>,
+) -> Option<Seat<L, E>> {
     let seat = new_seat(rt, shared)?;
     Some(tick_worker(rt, shared, seat, &Still, &NoGate))
 }
 
 /// Commits into a new store in memory until a stop. Whether there was a flusher.
-pub(crate) fn commit_in_memory<L: Ledger, W: Wait + time::Clock, G: Gate>(
+pub(crate) fn commit_in_memory<L: Naming, E: Entry, W: Wait + time::Clock, G: Gate>(
     rt: &W,
     alloc: Global,
-    shared: &Shared<L>,
+    shared: &Shared<L, E>,
     gate: &G,
 ) -> bool {
     match memory_flusher(alloc) {
@@ -366,10 +382,10 @@ pub(crate) fn commit_in_memory<L: Ledger, W: Wait + time::Clock, G: Gate>(
 }
 
 /// Tells all to stop, and commits what is not settled. Whether there was a flusher.
-pub(crate) fn commit_all<L: Ledger, W: Wait + time::Clock>(
+pub(crate) fn commit_all<L: Naming, E: Entry, W: Wait + time::Clock>(
     rt: &W,
     alloc: Global,
-    shared: &Shared<L>,
+    shared: &Shared<L, E>,
 ) -> bool {
     stop(rt, shared);
     commit_in_memory(rt, alloc, shared, &NoGate)

@@ -1,10 +1,8 @@
 // A radio whose driver fails while stations are served, with spare radios and without, and another radio beside it.
-ghost use Rattle.std.specs.Prelude.{◌≡◌};
+ghost use Rattle.std.specs.Prelude.{◌≡◌, IfSome};
+ghost use Rattle.apd_desk.specs.Naming.{AreNames};
 
-use crate::common::{
-    Host, Still, WLAN0, WLAN1, adds, commit, core_of_two_radios, memory_flusher, new_seat,
-    serve_radio, share, station,
-};
+use crate::common::{Host, Still, WLAN0, WLAN1, adds, commit, core_of_two_radios, memory_flusher, new_seat, serve_radio, share, station, Named, named_core};
 use crate::expect::expect;
 use crate::fed::{Asks, Fed, Frame, Stage, When};
 use crate::flaky::{Calls, Flaky};
@@ -12,7 +10,7 @@ use crate::habit::Habitual;
 use crate::operator::{begin, replies_to};
 use apd_base::{Addr, Bssid};
 use apd_ctrl::Query;
-use apd_desk::{NoGate, Seat, Shared};
+use apd_desk::{NoGate, Seat, Shared, Entry, Naming, Change};
 use apd_disk::MemDisk;
 use apd_flusher::Flusher;
 use apd_mlme::Out;
@@ -23,7 +21,6 @@ use std::marker::Brand;
 use std::net::Net;
 use std::process::Abort;
 use std::sync::Wait;
-use std::sync::ledger::{Blank, Ledger};
 use std::thread::{join, sleep};
 use std::time::{Clock, Duration};
 
@@ -174,10 +171,10 @@ impl Found {
 }
 
 // Whether a station's row is there, and its flags begin so.
-fn shows<L: Ledger, W: Wait>(
+fn shows<L: Naming, E: Entry, W: Wait>(
     rt: &W,
-    shared: &Shared<L>,
-    seat: &mut Seat<L>,
+    shared: &Shared<L, E>,
+    seat: &mut Seat<L, E>,
     row: (Bssid, u8),
     flags: &[u8],
 ) -> bool {
@@ -189,10 +186,10 @@ fn shows<L: Ledger, W: Wait>(
 }
 
 // Waits until a station's flags begin so.
-fn comes<L: Ledger, W: Wait + Clock>(
+fn comes<L: Naming, E: Entry, W: Wait + Clock>(
     rt: &W,
-    shared: &Shared<L>,
-    seat: &mut Seat<L>,
+    shared: &Shared<L, E>,
+    seat: &mut Seat<L, E>,
     row: (Bssid, u8),
     flags: &[u8],
 ) -> bool {
@@ -206,20 +203,20 @@ fn comes<L: Ledger, W: Wait + Clock>(
 }
 
 // Waits for both stations that associate last.
-fn both_associate<L: Ledger, W: Wait + Clock>(
+fn both_associate<L: Naming, E: Entry, W: Wait + Clock>(
     rt: &W,
-    shared: &Shared<L>,
-    seat: &mut Seat<L>,
+    shared: &Shared<L, E>,
+    seat: &mut Seat<L, E>,
 ) -> bool {
     comes(rt, shared, seat, (WLAN0, 0xbb), b"flags=[AUTH][ASSOC]")
         && comes(rt, shared, seat, (WLAN1, 0xdd), b"flags=[AUTH][ASSOC]")
 }
 
 // Waits for the last further station at each radio.
-fn both_authenticate<L: Ledger, W: Wait + Clock>(
+fn both_authenticate<L: Naming, E: Entry, W: Wait + Clock>(
     rt: &W,
-    shared: &Shared<L>,
-    seat: &mut Seat<L>,
+    shared: &Shared<L, E>,
+    seat: &mut Seat<L, E>,
 ) -> bool {
     comes(rt, shared, seat, (WLAN0, 0xc2), b"flags=[AUTH]")
         && comes(rt, shared, seat, (WLAN1, 0xe2), b"flags=[AUTH]")
@@ -228,10 +225,10 @@ fn both_authenticate<L: Ledger, W: Wait + Clock>(
 // Waits for both stations that associate last, lets two further ones come at each radio, and waits for those. A radio
 // receives the second in a later turn than the first: at that turn's look those stations were settled, so its slot is
 // given them in that turn at the latest, and whenever a stop comes.
-fn all_come<L: Ledger, W: Wait + Clock>(
+fn all_come<L: Naming, E: Entry, W: Wait + Clock>(
     rt: &W,
-    shared: &Shared<L>,
-    seat: &mut Seat<L>,
+    shared: &Shared<L, E>,
+    seat: &mut Seat<L, E>,
     stages: &Stages,
 ) -> bool {
     let associated = both_associate(rt, shared, seat);
@@ -241,11 +238,11 @@ fn all_come<L: Ledger, W: Wait + Clock>(
 }
 
 // Asks, and tells all to stop. Whether the replies begin so.
-fn replies<L: Ledger, W: Wait + Clock + Net>(
+fn replies<L: Naming, E: Entry, W: Wait + Clock + Net>(
     rt: &W,
     alloc: Global,
-    shared: &Shared<L>,
-    seat: Seat<L>,
+    shared: &Shared<L, E>,
+    seat: Seat<L, E>,
     texts: &[&[u8]],
 ) -> bool {
     let replies = replies_to(rt, alloc, shared, seat, ASKED);
@@ -256,7 +253,7 @@ fn replies<L: Ledger, W: Wait + Clock + Net>(
 
 // Waits until it is noted of the first radio that it is up, or that it is down: it may be tried again still. Tells
 // whether it came so.
-fn wait_until_noted<L: Ledger, W: Wait + Clock>(rt: &W, shared: &Shared<L>, up: bool) -> bool {
+fn wait_until_noted<L: Naming, E: Entry, W: Wait + Clock>(rt: &W, shared: &Shared<L, E>, up: bool) -> bool {
     for _look in 0..LOOKS {
         if shared.is_noted_up(rt, WLAN0) == up {
             return true;
@@ -268,10 +265,10 @@ fn wait_until_noted<L: Ledger, W: Wait + Clock>(rt: &W, shared: &Shared<L>, up: 
 
 // Waits until all have come, and the first radio is as it is told to be; asks then, and tells all to stop. Whether all
 // came so, and the replies begin so.
-fn ask<L: Ledger, W: Wait + Clock + Net>(
+fn ask<L: Naming, E: Entry, W: Wait + Clock + Net>(
     rt: &W,
     alloc: Global,
-    shared: &Shared<L>,
+    shared: &Shared<L, E>,
     stages: &Stages,
     scene: Scene,
 ) -> Option<bool> {
@@ -282,10 +279,10 @@ fn ask<L: Ledger, W: Wait + Clock + Net>(
 }
 
 // Commits, and asks.
-fn commit_and_ask<L: Ledger + Send + Sync, W: Host>(
+fn commit_and_ask<L: Naming + Send + Sync, E: Entry + Send + Sync, W: Host>(
     rt: &W,
     alloc: Global,
-    shared: &Shared<L>,
+    shared: &Shared<L, E>,
     flusher: Flusher<MemDisk>,
     stages: &Stages,
     scene: Scene,
@@ -308,11 +305,11 @@ fn see<R: Radio>(slot: &Slot<R>, stations: [Addr; 2]) -> Seen {
 }
 
 // Serves a radio, and tells what is seen of these stations then.
-fn serve<L: Ledger, W: Wait + Clock + Net, R: Radio>(
+fn serve<L: Naming, E: Entry, W: Wait + Clock + Net, R: Radio>(
     rt: &W,
     alloc: Global,
-    shared: &Shared<L>,
-    seat: Seat<L>,
+    shared: &Shared<L, E>,
+    seat: Seat<L, E>,
     slot: Slot<R>,
     spares: Vec<R>,
     stations: [Addr; 2],
@@ -386,10 +383,10 @@ fn first_slot<'a>(alloc: Global, stage: &'a Stage, scene: Scene) -> Slot<Driver<
     }
 }
 
-fn serve_first<L: Ledger, W: Wait + Clock + Net>(
+fn serve_first<L: Naming, E: Entry, W: Wait + Clock + Net>(
     rt: &W,
     alloc: Global,
-    shared: &Shared<L>,
+    shared: &Shared<L, E>,
     stage: &Stage,
     scene: Scene,
 ) -> Option<Seen> {
@@ -399,10 +396,10 @@ fn serve_first<L: Ledger, W: Wait + Clock + Net>(
     Some(serve(rt, alloc, shared, seat, slot, spares, stations))
 }
 
-fn serve_other<L: Ledger, W: Wait + Clock + Net>(
+fn serve_other<L: Naming, E: Entry, W: Wait + Clock + Net>(
     rt: &W,
     alloc: Global,
-    shared: &Shared<L>,
+    shared: &Shared<L, E>,
     stage: &Stage,
 ) -> Option<Seen> {
     let seat = new_seat(rt, shared)?;
@@ -416,10 +413,10 @@ fn serve_other<L: Ledger, W: Wait + Clock + Net>(
 }
 
 // What is seen of both radios.
-fn serve_both<L: Ledger + Send + Sync, W: Host>(
+fn serve_both<L: Naming + Send + Sync, E: Entry + Send + Sync, W: Host>(
     rt: &W,
     alloc: Global,
-    shared: &Shared<L>,
+    shared: &Shared<L, E>,
     stages: &Stages,
     scene: Scene,
 ) -> (Option<Seen>, Option<Seen>) {
@@ -433,10 +430,10 @@ fn serve_both<L: Ledger + Send + Sync, W: Host>(
 // Whether both are served, and what is seen of them.
 type Served = (bool, (Option<Seen>, Option<Seen>));
 
-fn serve_and_ask<L: Ledger + Send + Sync, W: Host>(
+fn serve_and_ask<L: Naming + Send + Sync, E: Entry + Send + Sync, W: Host>(
     rt: &W,
     alloc: Global,
-    shared: &Shared<L>,
+    shared: &Shared<L, E>,
     flusher: Flusher<MemDisk>,
     stages: &Stages,
     scene: Scene,
@@ -465,10 +462,10 @@ fn gather(stages: &Stages, served: Served) -> Found {
     }
 }
 
-fn run<L: Ledger + Send + Sync, W: Host>(
+fn run<L: Naming + Send + Sync, E: Entry + Send + Sync, W: Host>(
     rt: &W,
     alloc: Global,
-    shared: &Shared<L>,
+    shared: &Shared<L, E>,
     scene: Scene,
 ) -> Option<Told> {
     let flusher = memory_flusher(alloc)?;
@@ -480,17 +477,16 @@ fn run<L: Ledger + Send + Sync, W: Host>(
     Some(gather(&stages, served).tell())
 }
 
-fn find<L: Ledger + Send + Sync, W: Host>(
+fn find<L: Naming + Send + Sync, E: Entry + Send + Sync, W: Host>(
     rt: &W,
     alloc: Global,
-    blank: Blank,
+    named: Option<Named<E>>,
     scene: Scene,
 ) -> Option<Told>
-    requires name { blank.name ≡ L.name }
-    requires parts { blank.parts ≡ L.parts }
-    requires all { blank.parts ≡ 65536 }
+    requires names { IfSome named (λ named. AreNames L.seats L.table L.commits named.names) }
+    requires first { IfSome named (λ named. named.core ≡ L.first) }
 {
-    let shared: Shared<L> = share(core_of_two_radios(alloc), blank)?;
+    let shared: Shared<L, E> = share(named)?;
     let found = run(rt, alloc, &shared, scene);
     drop(shared);
     found
@@ -527,7 +523,7 @@ fn with_spares(spares: &'static [Spare]) -> Scene {
 #[test]
 fn a_spare_has_what_is_wanted(rt: HostRuntime) {
     let scene = with_spares(&[Spare(MANY, BEHIND)]);
-    let found = find::<Brand, _>(&rt, rt.alloc(), Blank::new(65_536), scene);
+    let found = find::<Brand, Change, _>(&rt, rt.alloc(), named_core(rt.alloc(), core_of_two_radios(rt.alloc())), scene);
     expect_found(&rt, found, MENDED);
 }
 
@@ -536,7 +532,7 @@ fn a_spare_has_what_is_wanted(rt: HostRuntime) {
 #[test]
 fn spares_are_tried_in_order(rt: HostRuntime) {
     let scene = with_spares(&[Spare(0, &[]), Spare(MANY, BEHIND)]);
-    let found = find::<Brand, _>(&rt, rt.alloc(), Blank::new(65_536), scene);
+    let found = find::<Brand, Change, _>(&rt, rt.alloc(), named_core(rt.alloc(), core_of_two_radios(rt.alloc())), scene);
     let wanted = Found {
         downs: 3 + 2,
         ..MENDED
@@ -554,7 +550,7 @@ fn a_slot_without_a_spare_stays_down_after_three_tries(rt: HostRuntime) {
         spares: &[],
         replies: &[b"state=DISABLED\n", UP, b"PONG\n"],
     };
-    let found = find::<Brand, _>(&rt, rt.alloc(), Blank::new(65_536), scene);
+    let found = find::<Brand, Change, _>(&rt, rt.alloc(), named_core(rt.alloc(), core_of_two_radios(rt.alloc())), scene);
     let wanted = Found {
         served: true,
         first: Some((false, [None, Some(2)], [None, None])),
@@ -572,7 +568,7 @@ fn a_slot_without_a_spare_stays_down_after_three_tries(rt: HostRuntime) {
 #[test]
 fn a_spare_that_fails_has_a_spare(rt: HostRuntime) {
     let scene = with_spares(&[Spare(3, BETWEEN), Spare(MANY, LAST)]);
-    let found = find::<Brand, _>(&rt, rt.alloc(), Blank::new(65_536), scene);
+    let found = find::<Brand, Change, _>(&rt, rt.alloc(), named_core(rt.alloc(), core_of_two_radios(rt.alloc())), scene);
     let wanted = Found {
         downs: 3 + 2,
         ..MENDED
@@ -602,7 +598,7 @@ fn alone(begins: Begins) -> Scene {
 fn a_slot_that_is_given_anew_what_is_wanted_is_up(rt: HostRuntime) {
     for (faults, tries) in [(1, 1), (3, 3)].as_slice() {
         let scene = alone(Begins::Up(*faults));
-        let found = find::<Brand, _>(&rt, rt.alloc(), Blank::new(65_536), scene);
+        let found = find::<Brand, Change, _>(&rt, rt.alloc(), named_core(rt.alloc(), core_of_two_radios(rt.alloc())), scene);
         expect(
             &rt,
             (*faults, found),
@@ -615,6 +611,6 @@ fn a_slot_that_is_given_anew_what_is_wanted_is_up(rt: HostRuntime) {
 #[test]
 fn a_slot_that_is_down_at_first_is_mended(rt: HostRuntime) {
     let scene = alone(Begins::Down(0));
-    let found = find::<Brand, _>(&rt, rt.alloc(), Blank::new(65_536), scene);
+    let found = find::<Brand, Change, _>(&rt, rt.alloc(), named_core(rt.alloc(), core_of_two_radios(rt.alloc())), scene);
     expect_found(&rt, found, served_again(1));
 }

@@ -2,30 +2,29 @@
 use crate::common::stop;
 use crate::habit::{Given, Habit};
 use apd_base::Moment;
-use apd_desk::{Clock, Gate, Place, Shared};
+use apd_desk::{Clock, Gate, Place, Shared, Entry, Naming};
 use std::alloc::{AllocError, Global};
 use std::sync::Wait;
 use std::sync::atomic::{AtomicBool, AtomicU64, AtomicUsize, Ordering};
-use std::sync::ledger::Ledger;
 use std::thread::sleep;
 use std::time;
 use std::time::Duration;
 
 /// Tells its moments one after another, and with the last one tells all to stop.
 #[derive(Drop)]
-pub(crate) struct StagedClock<'a, L: Ledger, W: Wait> {
+pub(crate) struct StagedClock<'a, L: Naming, E: Entry, W: Wait> {
     rt: &'a W,
-    shared: &'a Shared<L>,
+    shared: &'a Shared<L, E>,
     moments: &'a [u64],
     told: AtomicUsize,
 }
 
-impl<'a, L: Ledger, W: Wait> StagedClock<'a, L, W> {
+impl<'a, L: Naming, E: Entry, W: Wait> StagedClock<'a, L, E, W> {
     pub(crate) fn new(
         rt: &'a W,
-        shared: &'a Shared<L>,
+        shared: &'a Shared<L, E>,
         moments: &'a [u64],
-    ) -> StagedClock<'a, L, W> {
+    ) -> StagedClock<'a, L, E, W> {
         StagedClock {
             rt,
             shared,
@@ -35,7 +34,7 @@ impl<'a, L: Ledger, W: Wait> StagedClock<'a, L, W> {
     }
 }
 
-impl<L: Ledger, W: Wait> Clock for StagedClock<'_, L, W> {
+impl<L: Naming, E: Entry, W: Wait> Clock for StagedClock<'_, L, E, W> {
     fn now(&self) -> Moment {
         let at = self.told.fetch_add(1, Ordering::SeqCst);
         if at.saturating_add(1) >= self.moments.len() {
@@ -90,21 +89,21 @@ impl Gate for Log {
 
 /// The habit of a radio that receives these frames, one at each look, and tells all to stop at the look behind them.
 #[derive(Drop)]
-pub(crate) struct Staged<'a, L: Ledger, W: Wait> {
+pub(crate) struct Staged<'a, L: Naming, E: Entry, W: Wait> {
     rt: &'a W,
     alloc: Global,
-    shared: &'a Shared<L>,
+    shared: &'a Shared<L, E>,
     frames: &'a [&'a [u8]],
     given: usize,
 }
 
-impl<'a, L: Ledger, W: Wait> Staged<'a, L, W> {
+impl<'a, L: Naming, E: Entry, W: Wait> Staged<'a, L, E, W> {
     pub(crate) fn new(
         rt: &'a W,
         alloc: Global,
-        shared: &'a Shared<L>,
+        shared: &'a Shared<L, E>,
         frames: &'a [&'a [u8]],
-    ) -> Staged<'a, L, W> {
+    ) -> Staged<'a, L, E, W> {
         Staged {
             rt,
             alloc,
@@ -125,7 +124,7 @@ impl<'a, L: Ledger, W: Wait> Staged<'a, L, W> {
     }
 }
 
-impl<L: Ledger, W: Wait> Habit for Staged<'_, L, W> {
+impl<L: Naming, E: Entry, W: Wait> Habit for Staged<'_, L, E, W> {
     fn give(&mut self) -> Option<Given> {
         Some(self.next())
     }
