@@ -17,12 +17,10 @@ use Rattle.apd_flusher.specs.declared.flusher.Flusher.{Flusher}
 use Rattle.apd_flusher.specs.declared.phase.Phase.{Phase}
 use Rattle.apd_flusher.specs.declared.phase.Phase.TheVariants.{Idle, Busy, Done, Failed}
 use Rattle.apd_core.specs.declared.publish_fault.PublishFault.{PublishFault}
-use Rattle.apd_core.specs.Core.{CoreState}
-use Rattle.apd_history.specs.Calling.{by_committer}
-use Rattle.apd_history.specs.Chain.{Call as Logged}
-use Rattle.apd_steps.specs.Calls.{Made}
+use Rattle.apd_steps.specs.Calls.{Made, of_some_core}
 use Rattle.apd_steps.specs.Committing.{IsPublished}
 use Rattle.apd_steps.specs.Run.{AreSteps, Call, Fail, IsRun, IsStep, Publish, Step, Take}
+use Rattle.apd_steps.proofs.RunLemmas.{steps_somewhere}
 use Rattle.apd_desk.specs.Holding.{IsLed, held_batches, in_flusher, in_receipt, in_waiting, published_batch, published_batches, taken_batch, taken_batches}
 
 -- more behind the last of three
@@ -167,11 +165,11 @@ module _ {D : Type 0} where
         ∙ ap (λ (z : List Batch). published_batches before ++ z) (step_keeps step is.0 after b c is.3)
         ∙ sym (append_assoc (published_batches before) (published_batch step) (held_batches c))
 
-  abbrev pub led : (disk : DiskModel D) (first : CoreState) (front later : List Logged) (old new : Committer D)
-      → IsRun disk (by_committer first) front later old new → IsLed disk first front later old new
-  led disk first front later old new run = record {
+  abbrev pub led : {A : Type 0} (disk : DiskModel D) (core after : A) (old new : Committer D)
+      → IsRun disk of_some_core core after old new → IsLed disk old new
+  led disk core after old new run = record {
     steps = run.steps;
-    are = run.are;
+    are = steps_somewhere disk run.steps core after old new run.are;
     fails = run.fails;
-    held = steps_keep disk (by_committer first) run.steps front later old new run.are;
+    held = steps_keep disk of_some_core run.steps core after old new run.are;
   }

@@ -5,7 +5,6 @@ pub mod Giving
 mod Holding
 mod Noting
 mod Replies
-pub mod Seats
 pub mod Serving
 mod TendLemmas
 mod TickLemmas

@@ -11,11 +11,7 @@ use Rattle.apd_mlme.specs.declared.decision.Out.TheVariants.{Frame, Install, Rem
 use Rattle.apd_mlme.specs.declared.decision.Recipient.{Recipient}
 use Rattle.apd_mlme.specs.declared.decision.Recipient.TheVariants.{Control}
 use Rattle.apd_control_port.specs.Replied.{Reply, and_replies}
-use mathlib.Core.List.{IsPrefix}
-use Rattle.apd_history.specs.Chain.{call_of, core_at, Call, IsOneMore}
-use Rattle.apd_history.specs.declared.entry.Kind.TheVariants.{Hand}
-use Rattle.apd_history.proofs.Fronts.{prefix_on, prefix_same}
-use Rattle.apd_desk.specs.Replying.{AreMade, AreReadyIn, AreReplied, AreSettled, AreSomeOf, HasReplied, IsAnswerIn, IsAtOnce, IsEither}
+use Rattle.apd_desk.specs.Replying.{AreMade, AreReadyInSomeCore, AreReplied, AreSettled, AreSomeOf, HasReplied, IsAnswerOfSomeCore, IsAtOnce, IsEither}
 
 -- ---- such replies, time after time
 module _ (Such : List Reply → Type 0) where
@@ -47,37 +43,11 @@ module _ (Such Also : List Reply → Type 0) (so : (replies : List Reply) → Su
   pub replied_as : (old new : Option (List Reply)) → HasReplied Such old new → HasReplied Also old new
   replied_as old new h = record { times = h.times; made = made_as h.times old new h.made }
 
--- ---- what was seen stays so
-module _ (first : CoreState) (seen later : List Call) (grows : IsPrefix seen later) where
-  at_once_still : (replies : List Reply) → IsAtOnce first seen replies → IsAtOnce first later replies
-  at_once_still replies such =
-      ⊎_elim (λ refused. inl refused)
-      (λ told. inr (told.0, told.1, (told.2.0, prefix_on told.2.0 seen later told.2.1 grows, told.2.2), told.3)) such
+pub at_once_on : (x y z : Option (List Reply)) → HasReplied IsEither x y → HasReplied IsAtOnce y z → HasReplied IsEither x z
+at_once_on x y z first next = replied_on IsEither x y z first (replied_as IsAtOnce IsEither (λ replies such. inl such) y z next)
 
-  settled_still : (replies : List Reply) → AreSettled first seen replies → AreSettled first later replies
-  settled_still replies such =
-      let ready = such.1 in
-      (such.0, (ready.0, prefix_on ready.0 seen later ready.1 grows, ready.2, ready.3), such.2)
-
-  either_still : (replies : List Reply) → IsEither first seen replies → IsEither first later replies
-  either_still replies such = ⊎_elim (λ once. inl (at_once_still replies once)) (λ settled. inr (settled_still replies settled)) such
-
-  pub at_once_more : (x y z : Option (List Reply)) → HasReplied (IsAtOnce first seen) x y → HasReplied (IsAtOnce first later) y z
-      → HasReplied (IsAtOnce first later) x z
-  at_once_more x y z before next =
-      replied_on (IsAtOnce first later) x y z (replied_as (IsAtOnce first seen) (IsAtOnce first later) at_once_still x y before) next
-
-  pub at_once_on : (x y z : Option (List Reply)) → HasReplied (IsEither first seen) x y → HasReplied (IsAtOnce first later) y z
-      → HasReplied (IsEither first later) x z
-  at_once_on x y z before next =
-      replied_on (IsEither first later) x y z (replied_as (IsEither first seen) (IsEither first later) either_still x y before)
-      (replied_as (IsAtOnce first later) (IsEither first later) (λ replies such. inl such) y z next)
-
-  pub settled_on : (x y z : Option (List Reply)) → HasReplied (IsEither first seen) x y → HasReplied (AreSettled first later) y z
-      → HasReplied (IsEither first later) x z
-  settled_on x y z before next =
-      replied_on (IsEither first later) x y z (replied_as (IsEither first seen) (IsEither first later) either_still x y before)
-      (replied_as (AreSettled first later) (IsEither first later) (λ replies such. inr such) y z next)
+pub settled_on : (x y z : Option (List Reply)) → HasReplied IsEither x y → HasReplied AreSettled y z → HasReplied IsEither x z
+settled_on x y z first next = replied_on IsEither x y z first (replied_as AreSettled IsEither (λ replies such. inr such) y z next)
 
 -- ---- the replies among outs
 passed_on : (outs more : List Out) (p q : List Reply) → AreSomeOf p outs → AreSomeOf q more → AreSomeOf (p ++ q) (outs ++ more)
@@ -123,30 +93,16 @@ and_next outs out x y z (p, some, is) (q, next, then) =
     (p ++ q, passed_on outs (out ∷ []) p q some next, then ∙ ap (λ w. and_replies w q) is ∙ replies_on x p q)
 
 -- what was ready, and is settled so
-pub settled : (first : CoreState) (seen : List Call) (outs : List Out) (x y : Option (List Reply)) → AreReadyIn first seen Control outs
-    → AreReplied outs x y → HasReplied (AreSettled first seen) x y
-settled first seen outs x y ready (replies, some, is) = once (AreSettled first seen) replies x y (outs, ready, some) is
+pub settled : (outs : List Out) (x y : Option (List Reply)) → AreReadyInSomeCore Control outs → AreReplied outs x y → HasReplied AreSettled x y
+settled outs x y ready (replies, some, is) = once AreSettled replies x y (outs, ready, some) is
 
 -- ---- what a shared core tells
-pub told : {F : Type 0} (first : CoreState) (answer : Result Answer F) (core : CoreState) (query : Query) (seen all then : List Call)
-    → core ≡ core_at first all → seen ≡ then → then ≡ all
-    → IfOk answer (λ is. is ≡ answer_to_query core query) → IfOk answer (IsAnswerIn first seen)
-told first (Ok answer) core query seen all then at shows same is = (
-  seen,
-  prefix_same seen seen refl,
-  is ∙ (ap (answer_to_query core) (sym (ap (λ (a : Answer). a.query) is))
-  ∙ ap (λ (c : CoreState). answer_to_query c answer.query) (at ∙ ap (λ (l : List Call). core_at first l) (sym (shows ∙ same)))),
-)
-told first (Err fault) core query seen all then at shows same is = tt
+pub told : {E : Type 0} (answer : Result Answer E) (core : CoreState) (query : Query) → IfOk answer (λ is. is ≡ answer_to_query core query)
+    → IfOk answer IsAnswerOfSomeCore
+told (Ok answer) core query is = (core, is ∙ ap (answer_to_query core) (sym (ap (λ (a : Answer). a.query) is)))
+told (Err fault) core query is = tt
 
-pub collected : {V F : Type 0} (first : CoreState) (answer : Result V F) (items : V → List Out) (to : Recipient) (core after : CoreState)
-    (seen all then : List Call) → core ≡ core_at first all → seen ≡ then
-    → OnOk answer (IsOneMore (Hand to) core after all then) → IsCore core
-    → IfOk answer (λ v. items v ≡ ready_for to core) → IfOk answer (λ v. AreReadyIn first seen to (items v))
-collected first (Ok v) items to core after seen all then at shows more sound is = (
-  all,
-  (call_of (Hand to) core after ∷ [], sym (shows ∙ more)),
-  subst (λ (c : CoreState). IsCore c) at sound,
-  is ∙ ap (λ (c : CoreState). ready_for to c) at,
-)
-collected first (Err short) items to core after seen all then at shows more sound is = tt
+pub collected : {V E : Type 0} (answer : Result V E) (items : V → List Out) (to : Recipient) (core : CoreState) → IsCore core
+    → IfOk answer (λ v. items v ≡ ready_for to core) → IfOk answer (λ v. AreReadyInSomeCore to (items v))
+collected (Ok v) items to core sound is = (core, sound, is)
+collected (Err short) items to core sound is = tt

@@ -10,19 +10,22 @@ use Rattle.apd_radio.specs.declared.radio.RadioFault.{RadioFault}
 use Rattle.apd_slot.specs.Slots.{bssid_of, queue_of}
 use Rattle.apd_slot.specs.declared.mending.Mending.{Mending}
 use Rattle.apd_slot.specs.declared.slot.Slot.{Slot}
-use Rattle.apd_core.specs.Core.{CoreState}
 use Rattle.apd_steps.specs.Calls.{Made, SubmitTells}
 use Rattle.apd_steps.specs.Handing.{HandsTo}
 use Rattle.apd_steps.specs.Serving.{Apply, AreRadioSteps, Begin, Does, GoOn, Hand, IsPolled, IsRadioRun, IsReception, RadioStep, Receive, Silence}
 use Rattle.apd_steps.proofs.ServingLemmas.{frame_got, serve_one}
-use Rattle.apd_history.specs.declared.entry.Entry as entry
 use Rattle.apd_desk.specs.Asking.{by_seat}
 use Rattle.apd_desk.specs.Giving.{IsGivenOn, IsServed}
 use Rattle.apd_desk.specs.SeatProgress.{IsLater}
 use Rattle.apd_desk.specs.Serving.{HasServed}
 use Rattle.apd_desk.specs.declared.seat.Seat.{Seat}
-use Rattle.apd_desk.proofs.Seats.{later_on, same_later}
 use Rattle.apd_desk.proofs.Giving.{given_on, hands_given, mended_served, next_served, served, unserved}
+
+later_on : {L : Type 0} (x y z : Seat L) → IsLater x y → IsLater y z → IsLater x z
+later_on x y z first next = (omega (arith, first, next), omega (arith, first, next))
+
+same_later : {L : Type 0} (x y : Seat L) → y ≡ x → IsLater x y
+same_later x y same = subst (λ (z : Seat _). IsLater x z) (sym same) (omega arith, omega arith)
 
 module _ {R : Type 0} (radio : RadioModel R) (frames : R → Option (List (List ℕ))) where
   polled_served : (got : _) (old new : Slot R) → IsPolled radio frames got old new → IsServed radio [] old new
@@ -31,59 +34,59 @@ module _ {R : Type 0} (radio : RadioModel R) (frames : R → Option (List (List 
       (λ exact up. is.installed ∙ exact (sym is.same.up ∙ up) ∙ sym is.same.wanted)
       (append-nil (queue_of old) ∙ sym is.same.queue) is.same.wanted
 
-module _ {L E R : Type 0} {e : entry.Ghosts E} (core : CoreState) (radio : RadioModel R) (frames : R → Option (List (List ℕ))) where
-  step_given : (step : RadioStep) (seat later : Seat L E e) (old new : Slot R) (mending left : Mending R)
-      → Does radio frames (by_seat core) step seat later old new mending left → IsGivenOn radio old new
+module _ {L R : Type 0} (radio : RadioModel R) (frames : R → Option (List (List ℕ))) where
+  step_given : (step : RadioStep) (seat later : Seat L) (old new : Slot R) (mending left : Mending R)
+      → Does radio frames by_seat step seat later old new mending left → IsGivenOn radio old new
   step_given (Receive frame moment answer) seat later old new mending left does = ([], polled_served radio frames _ old new does.0)
   step_given (Silence fault) seat later old new mending left does = ([], polled_served radio frames _ old new does.0)
   step_given (Hand told) seat later old new mending left does =
-      let h = does.0.0 in hands_given radio (bssid_of old) told h.core h.after old new h.went.1
+      let h = does.0 in hands_given radio (bssid_of old) told h.0 h.1 old new h.2.1
   step_given (Apply told) seat later old new mending left does = ([], next_served radio told old new does.0.applies)
   step_given Begin seat later old new mending left does = ([], mended_served radio frames _ old new does.0.mended)
   step_given (GoOn tried up) seat later old new mending left does = ([], mended_served radio frames _ old new does.0.mended)
 
-  step_later : (step : RadioStep) (seat later : Seat L E e) (old new : Slot R) (mending left : Mending R)
-      → Does radio frames (by_seat core) step seat later old new mending left → IsLater seat later
-  step_later (Receive frame moment answer) seat later old new mending left does = does.1.2.1
+  step_later : (step : RadioStep) (seat later : Seat L) (old new : Slot R) (mending left : Mending R)
+      → Does radio frames by_seat step seat later old new mending left → IsLater seat later
+  step_later (Receive frame moment answer) seat later old new mending left does = does.1.2.3
   step_later (Silence fault) seat later old new mending left does = same_later seat later does.1
-  step_later (Hand told) seat later old new mending left does = does.0.1
+  step_later (Hand told) seat later old new mending left does = does.0.3
   step_later (Apply told) seat later old new mending left does = same_later seat later does.1
   step_later Begin seat later old new mending left does = same_later seat later does.1
   step_later (GoOn tried up) seat later old new mending left does = same_later seat later does.2
 
-  steps_given : (steps : List RadioStep) (seat later : Seat L E e) (old new : Slot R) (mending left : Mending R)
-      → AreRadioSteps radio frames (by_seat core) steps seat later old new mending left → IsGivenOn radio old new
+  steps_given : (steps : List RadioStep) (seat later : Seat L) (old new : Slot R) (mending left : Mending R)
+      → AreRadioSteps radio frames by_seat steps seat later old new mending left → IsGivenOn radio old new
   steps_given [] seat later old new mending left are =
       ([], subst (λ (z : Slot R). IsServed radio [] old z) (sym are.1) (unserved radio old))
   steps_given (step ∷ steps) seat later old new mending left are =
       given_on radio old are.1 new (steps_given steps seat are.0 old are.1 mending are.2 are.3) (step_given step are.0 later are.1 new are.2 left are.4)
 
-  steps_later : (steps : List RadioStep) (seat later : Seat L E e) (old new : Slot R) (mending left : Mending R)
-      → AreRadioSteps radio frames (by_seat core) steps seat later old new mending left → IsLater seat later
+  steps_later : (steps : List RadioStep) (seat later : Seat L) (old new : Slot R) (mending left : Mending R)
+      → AreRadioSteps radio frames by_seat steps seat later old new mending left → IsLater seat later
   steps_later [] seat later old new mending left are = same_later seat later are.0
   steps_later (step ∷ steps) seat later old new mending left are =
       later_on seat are.0 later (steps_later steps seat are.0 old are.1 mending are.2 are.3) (step_later step are.0 later are.1 new are.2 left are.4)
 
-  pub run_given : (seat later : Seat L E e) (old new : Slot R) (mending left : Mending R)
-      → IsRadioRun radio frames (by_seat core) seat later old new mending left → IsGivenOn radio old new
+  pub run_given : (seat later : Seat L) (old new : Slot R) (mending left : Mending R)
+      → IsRadioRun radio frames by_seat seat later old new mending left → IsGivenOn radio old new
   run_given seat later old new mending left run = steps_given run.steps seat later old new mending left run.are
 
-  pub run_later : (seat later : Seat L E e) (old new : Slot R) (mending left : Mending R)
-      → IsRadioRun radio frames (by_seat core) seat later old new mending left → IsLater seat later
+  pub run_later : (seat later : Seat L) (old new : Slot R) (mending left : Mending R)
+      → IsRadioRun radio frames by_seat seat later old new mending left → IsLater seat later
   run_later seat later old new mending left run = steps_later run.steps seat later old new mending left run.are
 
   -- the seat is that of the core that was asked
-  pub has_served : (spares : List R) (seat later first last : Seat L E e) (old new : Slot R) (mending left : Mending R) → first ≡ seat → later ≡ last
-      → mending.spares.items ≡ spares → mending.tries ≡ 0 → IsRadioRun radio frames (by_seat core) first last old new mending left
-      → HasServed core radio frames spares seat later old new
+  pub has_served : (spares : List R) (seat later first last : Seat L) (old new : Slot R) (mending left : Mending R) → first ≡ seat → later ≡ last
+      → mending.spares.items ≡ spares → mending.tries ≡ 0 → IsRadioRun radio frames by_seat first last old new mending left
+      → HasServed radio frames spares seat later old new
   has_served spares seat later first last old new mending left begins ends unused begun run = record {
     mending = mending;
     unused = unused;
     begun = begun;
     left = left;
     run =
-        subst (λ (z : Seat L E e). IsRadioRun radio frames (by_seat core) z later old new mending left) begins
-        (subst (λ (z : Seat L E e). IsRadioRun radio frames (by_seat core) first z old new mending left) (sym ends) run);
+        subst (λ (z : Seat L). IsRadioRun radio frames by_seat z later old new mending left) begins
+        (subst (λ (z : Seat L). IsRadioRun radio frames by_seat first z old new mending left) (sym ends) run);
   }
 
 -- ---- the steps that the worker makes of any core

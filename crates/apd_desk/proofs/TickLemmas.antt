@@ -5,14 +5,11 @@ use Rattle.std.specs.Int.{abs_diff}
 use Rattle.apd_base.specs.declared.moment.Moment.{Moment}
 use Rattle.apd_core.specs.declared.input.Input.TheVariants.{Tick}
 use Rattle.apd_core.specs.declared.ticket.Accepted.{Accepted}
-use Rattle.apd_core.specs.Core.{CoreState}
 use Rattle.apd_steps.specs.Calls.{Made, SubmitTells}
-use Rattle.apd_history.specs.declared.entry.Entry as entry
 use Rattle.apd_desk.specs.Asking.{by_seat}
 use Rattle.apd_desk.specs.SeatProgress.{IsLater}
 use Rattle.apd_desk.specs.Ticking.{AreTicks, AreTurns, HasEntered, HasTicked, IsTurn, MayGoOn, last_moment}
 use Rattle.apd_desk.specs.declared.seat.Seat.{Seat}
-use Rattle.apd_desk.proofs.Seats.{later_on, same_later}
 use Rattle.apd_desk.specs.declared.ticking.TheConstants.{SECOND, TICKS}
 
 -- so many ticks at one moment, each of which became an entry
@@ -99,22 +96,27 @@ module _ {A B : Type 0} (made : Made A) (also : Made B) (seen : A → B)
       record { begun = has.begun; moments = has.moments; are = turns_as has.begun has.moments core after has.are }
 
 -- ---- what a seat has seen then
-module _ {L E : Type 0} {e : entry.Ghosts E} (core : CoreState) where
-  ticks_later : (m : Moment) (answers : List (Result Accepted AllocError)) (old new : Seat L E e) → AreTicks (by_seat core) m answers old new
+module _ {L : Type 0} where
+  later_on : (x y z : Seat L) → IsLater x y → IsLater y z → IsLater x z
+  later_on x y z first next = (omega (arith, first, next), omega (arith, first, next))
+
+  same_later : (x y : Seat L) → y ≡ x → IsLater x y
+  same_later x y same = subst (λ (z : Seat L). IsLater x z) (sym same) (omega arith, omega arith)
+
+  ticks_later : (m : Moment) (answers : List (Result Accepted AllocError)) (old new : Seat L) → AreTicks by_seat m answers old new
       → IsLater old new
   ticks_later m [] old new same = same_later old new same
   ticks_later m (answer ∷ before) old new are =
-      later_on old are.0 new (ticks_later m before old are.0 are.1) are.3.1
+      later_on old are.0 new (ticks_later m before old are.0 are.1) are.3.3
 
-  turns_later : (begun : Moment) (moments : List Moment) (old new : Seat L E e) → AreTurns (by_seat core) begun moments old new → IsLater old new
+  turns_later : (begun : Moment) (moments : List Moment) (old new : Seat L) → AreTurns by_seat begun moments old new → IsLater old new
   turns_later begun [] old new same = same_later old new same
   turns_later begun (m ∷ before) old new are =
       later_on old are.0 new (turns_later begun before old are.0 are.1) (ticks_later m are.3.answers are.0 new are.3.are)
 
-  pub ticked_later : (old new : Seat L E e) → HasTicked (by_seat core) old new → IsLater old new
+  pub ticked_later : (old new : Seat L) → HasTicked by_seat old new → IsLater old new
   ticked_later old new has = turns_later has.begun has.moments old new has.are
 
-  pub by_that_seat : (seat first last later : Seat L E e) → first ≡ seat → later ≡ last → HasTicked (by_seat core) first last
-      → HasTicked (by_seat core) seat later
+  pub by_that_seat : (seat first last later : Seat L) → first ≡ seat → later ≡ last → HasTicked by_seat first last → HasTicked by_seat seat later
   by_that_seat seat first last later begins ends has =
-      subst (λ (z : Seat L E e). HasTicked (by_seat core) z later) begins (subst (λ (z : Seat L E e). HasTicked (by_seat core) first z) (sym ends) has)
+      subst (λ (z : Seat L). HasTicked by_seat z later) begins (subst (λ (z : Seat L). HasTicked by_seat first z) (sym ends) has)

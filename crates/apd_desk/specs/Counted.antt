@@ -2,7 +2,6 @@
 use Rattle.std.specs.Prelude.{ℕ, List, sum_by}
 use Rattle.apd_core.specs.declared.ticket.Accepted.{Accepted}
 use Rattle.apd_core.specs.declared.ticket.Accepted.TheVariants.{Stopped, Busy, Quiet, Entry}
-use Rattle.apd_history.specs.declared.entry.Entry as entry
 use Rattle.apd_desk.specs.declared.seat.Seat.{Seat}
 
 -- the entries that an answer made
@@ -13,5 +12,5 @@ entries_in (Quiet reason) = 0
 entries_in (Entry ticket) = 1
 
 -- the entries of some seats: the sum of their counts
-abbrev pub entries_of_seats : {L E : Type 0} {e : entry.Ghosts E} → List (Seat L E e) → ℕ
+abbrev pub entries_of_seats : {L : Type 0} → List (Seat L) → ℕ
 entries_of_seats seats = sum_by (λ seat. seat.count) seats

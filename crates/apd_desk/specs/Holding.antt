@@ -8,9 +8,7 @@ use Rattle.apd_flusher.specs.Outside.{flusher_batch, flusher_of, phase_of, waiti
 use Rattle.apd_flusher.specs.declared.committer.Committer.{Committer}
 use Rattle.apd_flusher.specs.declared.phase.Phase.{Phase}
 use Rattle.apd_flusher.specs.declared.phase.Phase.TheVariants.{Idle, Busy, Done, Failed}
-use Rattle.apd_core.specs.Core.{CoreState}
-use Rattle.apd_history.specs.Calling.{by_committer}
-use Rattle.apd_history.specs.Chain.{Call}
+use Rattle.apd_steps.specs.Calls.{of_some_core}
 use Rattle.apd_steps.specs.Run.{AreSteps, FailsBehindRefusals, Publish, Step, Take}
 
 abbrev pub in_receipt : Option Receipt → List Batch
@@ -51,12 +49,11 @@ abbrev pub published_batches : List Step → List Batch
 published_batches [] = []
 published_batches (step ∷ before) = published_batches before ++ published_batch step
 
--- Steps lead from one to the other, and nothing else happened; each call of the core that they made stands in the history
--- that was seen, in the order in which they made them, and nobody else committed in between.
-pub record IsLed {D : Type 0} (disk : DiskModel D) (first : CoreState) (front later : List Call) (old new : Committer D)
-    : Type 0 where
+-- Steps lead from one to the other, and nothing else happened; for each call of the core that a step made, there was a
+-- core that went so.
+pub record IsLed {D : Type 0} (disk : DiskModel D) (old new : Committer D) : Type 0 where
   pub steps : List Step
-  pub are : AreSteps disk (by_committer first) steps front later old new
+  pub are : AreSteps disk (of_some_core {A = Unit {0}}) steps tt tt old new
   -- and the core was told to fail behind a refusal alone, which was none for want of memory
   pub fails : FailsBehindRefusals steps
   -- no batch is lost, and no receipt: what was held and what was taken since is, in order, what was published and

@@ -5,9 +5,6 @@ pub mod Finding
 pub mod Giving
 pub mod Going
 pub mod Holding
-pub mod Moments
-pub mod Naming
-pub mod Owning
 pub mod RadioNotes
 pub mod Replying
 pub mod Serving

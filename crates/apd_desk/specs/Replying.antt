@@ -1,6 +1,5 @@
 -- What the worker of a control port replied (own).
 use Rattle.std.specs.Prelude.{◌≡◌, ◌⊎◌, ℕ, List, [], ◌∷◌, codes, Option}
-use mathlib.Core.List.{IsPrefix}
 use Rattle.apd_core.specs.Core.{CoreState, answer_to_query, ready_for}
 use Rattle.apd_core.specs.Invariant.{IsCore}
 use Rattle.apd_core.specs.declared.query_answer.Answer.{Answer}
@@ -11,22 +10,19 @@ use Rattle.apd_mlme.specs.declared.decision.Out.TheVariants.{Frame, Install, Rem
 use Rattle.apd_mlme.specs.declared.decision.Recipient.{Recipient}
 use Rattle.apd_mlme.specs.declared.decision.Recipient.TheVariants.{Control}
 use Rattle.apd_control_port.specs.Replied.{Reply, and_replies}
-use Rattle.apd_history.specs.Chain.{core_at, Call}
 
 -- the reply to what is refused
 abbrev pub text_of : Refusal → List ℕ
 text_of Unknown = codes "UNKNOWN COMMAND\n"
 text_of Fail = codes "FAIL\n"
 
--- the shared core gave this answer to this query, where its history had come so far: from its table of settled entries
-abbrev pub IsAnswerIn : CoreState → List Call → Answer → Type 0
-IsAnswerIn first front answer =
-    (seen : List Call) × IsPrefix seen front × (answer ≡ answer_to_query (core_at first seen) answer.query)
+-- there was a core that gave this answer to this query: from its table of settled entries
+abbrev pub IsAnswerOfSomeCore : Answer → Type 0
+IsAnswerOfSomeCore answer = (core : CoreState) × (answer ≡ answer_to_query core answer.query)
 
--- these were the outs of the shared core that waited for a recipient there, their entries settled
-abbrev pub AreReadyIn : CoreState → List Call → Recipient → List Out → Type 0
-AreReadyIn first front to outs =
-    (seen : List Call) × IsPrefix seen front × IsCore (core_at first seen) × (outs ≡ ready_for to (core_at first seen))
+-- there was a core of which these were the outs that waited for a recipient, their entries settled
+abbrev pub AreReadyInSomeCore : Recipient → List Out → Type 0
+AreReadyInSomeCore to outs = (core : CoreState) × IsCore core × (outs ≡ ready_for to core)
 
 -- some of the texts among these outs, in order, each once under its tag: the port lost the others
 abbrev pub AreSomeOf : List Reply → List Out → Type 0
@@ -38,17 +34,17 @@ AreSomeOf replies (Remove addr ∷ outs) = AreSomeOf replies outs
 AreSomeOf replies (Frame frame ∷ outs) = AreSomeOf replies outs
 
 -- what is replied to a command at once: that it is refused, or the answer to a query
-abbrev pub IsAtOnce : CoreState → List Call → List Reply → Type 0
-IsAtOnce first front replies =
+abbrev pub IsAtOnce : List Reply → Type 0
+IsAtOnce replies =
     ((tag : ℕ) × (why : Refusal) × (replies ≡ (tag, text_of why) ∷ []))
-    ⊎ ((tag : ℕ) × (answer : Answer) × IsAnswerIn first front answer × (replies ≡ (tag, answer.text) ∷ []))
+    ⊎ ((tag : ℕ) × (answer : Answer) × IsAnswerOfSomeCore answer × (replies ≡ (tag, answer.text) ∷ []))
 
 -- what is replied to orders: what was ready for control, so of settled entries alone
-abbrev pub AreSettled : CoreState → List Call → List Reply → Type 0
-AreSettled first front replies = (outs : List Out) × AreReadyIn first front Control outs × AreSomeOf replies outs
+abbrev pub AreSettled : List Reply → Type 0
+AreSettled replies = (outs : List Out) × AreReadyInSomeCore Control outs × AreSomeOf replies outs
 
-abbrev pub IsEither : CoreState → List Call → List Reply → Type 0
-IsEither first front replies = IsAtOnce first front replies ⊎ AreSettled first front replies
+abbrev pub IsEither : List Reply → Type 0
+IsEither replies = IsAtOnce replies ⊎ AreSettled replies
 
 -- replies were made time after time, the last time first, each time such ones
 abbrev pub AreMade : (List Reply → Type 0) → List (List Reply) → Option (List Reply) → Option (List Reply) → Type 0

@@ -1,7 +1,5 @@
 -- What a seat has seen (own).
 use Rattle.std.specs.Prelude.{ℕ, ◌<◌, ◌≤◌, nat_le, if◌then◌else◌}
-use mathlib.Core.List.{IsPrefix}
-use Rattle.apd_history.specs.declared.entry.Entry as entry
 use Rattle.apd_desk.specs.declared.seat.Seat.{Seat}
 
 -- the greatest number of a settled entry that a seat saw, after an answer where that number is settled: never below the
@@ -14,5 +12,5 @@ abbrev pub IsBehind : ℕ → ℕ → Type 0
 IsBehind settled seen = settled < seen
 
 -- a seat later on: neither what it counts nor what it saw goes back
-abbrev pub IsLater : {L E : Type 0} {e : entry.Ghosts E} → Seat L E e → Seat L E e → Type 0
-IsLater old new = (old.count ≤ new.count) × (old.seen ≤ new.seen) × IsPrefix old.front new.front
+abbrev pub IsLater : {L : Type 0} → Seat L → Seat L → Type 0
+IsLater old new = (old.count ≤ new.count) × (old.seen ≤ new.seen)

@@ -11,7 +11,6 @@ use crate::waking::Waiter;
 use apd_base::{Bssid, Moment};
 use apd_core::{Accepted, Answer, Input};
 use apd_ctrl::Query;
-use apd_history::{Entry, Naming};
 use apd_mlme::{Out, Recipient};
 use apd_radio::Radio;
 use apd_slot::Slot;
@@ -19,35 +18,36 @@ use apd_steps::Asks;
 use std::alloc::AllocError;
 use std::os::fd::RawFd;
 use std::sync::Wait;
+use std::sync::ledger::Ledger;
 use std::time::{Clock, Duration};
 
 /// A shared core, for one who has a seat.
 #[derive(Drop)]
-pub(crate) struct Asked<'a, L: Naming, E: Entry, W> {
+pub(crate) struct Asked<'a, L: Ledger, W> {
     rt: &'a W,
-    shared: &'a Shared<L, E>,
-    seat: Seat<L, E>,
+    shared: &'a Shared<L>,
+    seat: Seat<L>,
 }
 
-impl<'a, L: Naming, E: Entry, W> Asked<'a, L, E, W> {
-    pub(crate) fn new(rt: &'a W, shared: &'a Shared<L, E>, seat: Seat<L, E>) -> Asked<'a, L, E, W>
+impl<'a, L: Ledger, W> Asked<'a, L, W> {
+    pub(crate) fn new(rt: &'a W, shared: &'a Shared<L>, seat: Seat<L>) -> Asked<'a, L, W>
         ensures { result.seat ≡ seat }
     {
         Asked { rt, shared, seat }
     }
 
-    pub(crate) fn into_seat(self) -> Seat<L, E>
+    pub(crate) fn into_seat(self) -> Seat<L>
         ensures { result ≡ self.entry.seat }
     {
         self.seat
     }
 }
 
-// Others may call before and after: each call stands in the history behind what the seat had seen.
-impl<L: Naming, E: Entry, W: Wait> Asks for Asked<'_, L, E, W> {
+// Others may call before and after: what is known is that there was a core that went so.
+impl<L: Ledger, W: Wait> Asks for Asked<'_, L, W> {
     type Refusal = AskFault;
 
-    ghost made = { λ call old new. by_seat L.first call old.seat new.seat };
+    ghost made = { λ call old new. by_seat call old.seat new.seat };
 
     fn submit<'a>(&mut self, input: Input<'a>, moment: Moment) -> Result<Accepted<'a>, AllocError> {
         self.shared
@@ -88,7 +88,7 @@ pub(crate) trait Serves: Asks {
     fn rest(&self, time: Duration, seen: Look);
 }
 
-impl<L: Naming, E: Entry, W: Wait + Clock> Serves for Asked<'_, L, E, W> {
+impl<L: Ledger, W: Wait + Clock> Serves for Asked<'_, L, W> {
     fn look(&self) -> Look {
         self.shared.look()
     }

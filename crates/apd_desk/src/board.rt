@@ -1,7 +1,7 @@
 //! What can be seen without the lock.
 use crate::locked::{Locked, Look};
-use apd_history::{Entry, Naming};
 use std::sync::atomic::{AtomicBool, AtomicU64, Ordering};
+use std::sync::ledger::Ledger;
 
 /// What was posted of the shared core, for those who look while others hold the lock. Each post takes what lies under the
 /// lock, which nobody has but who holds that: who takes the lock after a look finds at least what was seen.
@@ -23,18 +23,18 @@ impl Board {
     }
 
     /// Posts how many entries were accepted.
-    pub(crate) fn post_accepted<L: Naming, E: Entry>(&self, locked: &Locked<L, E>) {
+    pub(crate) fn post_accepted<L: Ledger>(&self, locked: &Locked<L>) {
         self.accepted
             .store(locked.look().accepted, Ordering::SeqCst);
     }
 
     /// Posts the number of the last settled one.
-    pub(crate) fn post_settled<L: Naming, E: Entry>(&self, locked: &Locked<L, E>) {
+    pub(crate) fn post_settled<L: Ledger>(&self, locked: &Locked<L>) {
         self.settled.store(locked.look().settled, Ordering::SeqCst);
     }
 
     /// Posts whether all are to stop.
-    pub(crate) fn post_stop<L: Naming, E: Entry>(&self, locked: &Locked<L, E>) {
+    pub(crate) fn post_stop<L: Ledger>(&self, locked: &Locked<L>) {
         self.stopped.store(locked.look().stopped, Ordering::SeqCst);
     }
 

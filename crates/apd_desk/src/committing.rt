@@ -4,7 +4,6 @@ ghost use Rattle.apd_flusher.specs.Handing.{Keeps};
 ghost use Rattle.apd_journal.specs.declared.batch.Batch.{Batch as GivenBatch};
 ghost use Rattle.apd_store.specs.declared.store.Receipt.{Receipt as GivenReceipt};
 ghost use Rattle.apd_steps.specs.Run.{Call, IsRefusal, IsRun, Publish, Take};
-ghost use Rattle.apd_history.specs.Calling.{by_committer};
 ghost use Rattle.apd_desk.specs.Ends.{EndsAs};
 ghost use Rattle.apd_desk.specs.Going.{HasGone};
 ghost use Rattle.apd_desk.specs.Holding.{IsLed};
@@ -14,16 +13,15 @@ use crate::gate::{Gate, Place};
 use crate::idle::{Idle, LOOKS, Progress};
 use crate::locked::Look;
 use crate::news::News;
-use crate::owner::Owner;
 use crate::shared::{Committed, Shared};
 use apd_core::PublishFault;
 use apd_disk::Disk;
 use apd_flusher::{Committer, Phase};
-use apd_history::{CommitRight, Entry, Naming};
 use apd_steps::Settles;
 use apd_store::StoreFault;
 use std::alloc::AllocError;
 use std::sync::Wait;
+use std::sync::ledger::Ledger;
 use std::thread::yield_now;
 use std::time::Clock;
 
@@ -39,7 +37,7 @@ pub(crate) trait Rests: Settles {
     fn pause(&self, seen: Look);
 }
 
-impl<L: Naming, E: Entry, W: Wait + Clock> Rests for Committed<'_, L, E, W> {
+impl<L: Ledger, W: Wait + Clock> Rests for Committed<'_, L, W> {
     fn look(&self) -> Look {
         self.shared.look()
     }
@@ -179,50 +177,20 @@ fn commit_by_steps<W: Wait, A: Rests, D: Disk, G: Gate>(
     unreachable!()
 }
 
-// Commits the entries of a shared core, by who has the right to, until a stop or a refusal.
-fn commit_shared<L: Naming, E: Entry, W: Wait + Clock, D: Disk, G: Gate>(
+/// Commits the entries of a shared core, batch after batch. After a stop it ends once nothing is unsettled. What met
+/// want of memory is tried again; on any other refusal the core is told to fail, and it ends. It tells which of both
+/// ended it. A batch or a receipt that was refused waits in the committer. It passes the gate before and after each turn
+/// of the flusher, and holds the lock for none; it looks at what is posted once a group. Where there is nothing to
+/// commit it waits for an entry, or a stop.
+pub fn commit_all<L: Ledger, W: Wait + Clock, D: Disk, G: Gate>(
     rt: &W,
-    shared: &Shared<L, E>,
-    right: CommitRight<L, E>,
+    shared: &Shared<L>,
     committer: &mut Committer<D>,
     gate: &G,
-) -> (CommitRight<L, E>, Ending)
-    ensures { (run : IsRun D.model (by_committer L.first) right.front result.0.front committer.old committer.new)
-        × EndsAs result.1 run.steps }
+) -> Ending
+    ensures led { (led : IsLed D.model committer.old committer.new) × EndsAs result led.steps }
+    ensures keeps { Keeps D.model committer.old committer.new }
 {
-    let mut core = Committed { rt, shared, right };
-    let ending = commit_by_steps(rt, &mut core, committer, gate);
-    let Committed { right, .. } = core;
-    (right, ending)
-}
-
-/// Commits the entries of a shared core, batch after batch, and gives its owner back. After a stop it ends once nothing is
-/// unsettled. What met want of memory is tried again; on any other refusal the core is told to fail, and it ends. It
-/// tells which of both ended it. A batch or a receipt that was refused waits in the committer. It passes the gate before
-/// and after each turn of the flusher, and holds the lock for none; it looks at what is posted once a group. Where there is
-/// nothing to commit it waits for an entry, or a stop.
-pub fn commit_all<L: Naming, E: Entry, W: Wait + Clock, D: Disk, G: Gate>(
-    rt: &W,
-    shared: &Shared<L, E>,
-    owner: Owner<L, E, D>,
-    gate: &G,
-) -> (Owner<L, E, D>, Ending)
-    ensures led { (led : IsLed D.model L.first owner.front result.0.front owner.committer result.0.committer)
-        × EndsAs result.1 led.steps }
-    ensures keeps { Keeps D.model owner.committer result.0.committer }
-    ensures begun { result.0.begun ≡ owner.begun }
-{
-    let Owner {
-        committer,
-        right,
-        begun,
-    } = owner;
-    let mut committer = committer;
-    let (right, ending) = commit_shared(rt, shared, right, &mut committer, gate);
-    let owner = Owner {
-        committer,
-        right,
-        begun,
-    };
-    (owner, ending)
+    let mut core = Committed { rt, shared };
+    commit_by_steps(rt, &mut core, committer, gate)
 }

@@ -1,8 +1,6 @@
 //! The worker of the control port.
-ghost use Rattle.std.specs.Prelude.{◌≡◌, ◌≢◌, ◌∷◌, [], List, Some, IfOk, IfSome};
-ghost use Rattle.apd_core.specs.Core.{CoreState};
-ghost use Rattle.apd_history.specs.Chain.{Call};
-ghost use Rattle.apd_desk.specs.Replying.{AreReplied, AreSettled, HasReplied, IsAnswerIn, IsAtOnce, IsEither};
+ghost use Rattle.std.specs.Prelude.{◌≡◌, ◌≢◌, ◌∷◌, [], Some, IfOk, IfSome};
+ghost use Rattle.apd_desk.specs.Replying.{AreReplied, AreSettled, HasReplied, IsAnswerOfSomeCore, IsAtOnce, IsEither};
 ghost use Rattle.apd_desk.specs.Finding.{IsAnswerTo, IsFoundBySomeCore};
 ghost use Rattle.apd_desk.specs.SeatProgress.{IsLater};
 
@@ -18,22 +16,22 @@ use apd_base::Bssid;
 use apd_control_port::Port;
 use apd_core::{Answer, Input};
 use apd_ctrl::{Interfaces, Placed, Refusal, place};
-use apd_history::{Entry, Naming};
 use apd_mlme::{Out, Recipient};
 use std::alloc::Global;
 use std::net::Net;
 use std::sync::Wait;
+use std::sync::ledger::Ledger;
 use std::time::Clock as StdClock;
 
 /// The interfaces of a shared core, each with what is noted of its radio.
 #[derive(Drop)]
-struct SharedInterfaces<'a, L: Naming, E: Entry, W> {
+struct SharedInterfaces<'a, L: Ledger, W> {
     rt: &'a W,
-    shared: &'a Shared<L, E>,
+    shared: &'a Shared<L>,
 }
 
 // Others may call before and after: what is known is that there was a core by whose configurations one is found.
-impl<L: Naming, E: Entry, W: Wait> Interfaces for SharedInterfaces<'_, L, E, W> {
+impl<L: Ledger, W: Wait> Interfaces for SharedInterfaces<'_, L, W> {
     ghost finds = { λ _ name found. IsFoundBySomeCore name found };
 
     fn interface(&self, name: Option<&[u8]>) -> Option<(Bssid, bool)> {
@@ -45,17 +43,17 @@ impl<L: Naming, E: Entry, W: Wait> Interfaces for SharedInterfaces<'_, L, E, W> 
 // settled.
 //
 // Errors: why it is refused.
-fn carry_out<L: Naming, E: Entry, W: Wait, C: Clock, G: Gate>(
+fn carry_out<L: Ledger, W: Wait, C: Clock, G: Gate>(
     rt: &W,
-    shared: &Shared<L, E>,
-    seat: &mut Seat<L, E>,
+    shared: &Shared<L>,
+    seat: &mut Seat<L>,
     tag: u64,
     bytes: &[u8],
     clock: &C,
     gate: &G,
 ) -> Result<Option<Answer>, Refusal>
     ensures later { IsLater seat.old seat.new }
-    ensures answered { IfOk result (λ got. IfSome got (IsAnswerIn L.first seat.new.front)) }
+    ensures answered { IfOk result (λ got. IfSome got IsAnswerOfSomeCore) }
     ensures placed { IsAnswerTo tag bytes.now result }
 {
     match place(&SharedInterfaces { rt, shared }, tag, bytes) {
@@ -77,16 +75,16 @@ fn carry_out<L: Naming, E: Entry, W: Wait, C: Clock, G: Gate>(
 
 // Serves the next command, if one waits. Only what is refused and a query are replied to here: the reply to an order
 // comes when its entry is settled. A reply that the port loses is lost.
-fn serve_command<L: Naming, E: Entry, W: Wait, P: Port, C: Clock, G: Gate>(
+fn serve_command<L: Ledger, W: Wait, P: Port, C: Clock, G: Gate>(
     rt: &W,
-    shared: &Shared<L, E>,
-    seat: &mut Seat<L, E>,
+    shared: &Shared<L>,
+    seat: &mut Seat<L>,
     port: &mut P,
     clock: &C,
     gate: &G,
 ) -> Progress
     ensures later { IsLater seat.old seat.new }
-    ensures replied { HasReplied (IsAtOnce L.first seat.new.front) (P.replied port.old) (P.replied port.new) }
+    ensures replied { HasReplied IsAtOnce (P.replied port.old) (P.replied port.new) }
 {
     let (tag, bytes) = match port.poll() {
         Ok(Some(command)) => command,
@@ -103,31 +101,29 @@ fn serve_command<L: Naming, E: Entry, W: Wait, P: Port, C: Clock, G: Gate>(
 
 // Replies to a query.
 fn answer_query<P: Port>(port: &mut P, tag: u64, answer: &Answer)
-    ensures { (first : CoreState) (seen : List Call) → IsAnswerIn first seen answer.now
-        → HasReplied (IsAtOnce first seen) (P.replied port.old) (P.replied port.new) }
+    ensures { IsAnswerOfSomeCore answer.now → HasReplied IsAtOnce (P.replied port.old) (P.replied port.new) }
 {
     let _sent = port.reply(tag, answer.text());
 }
 
 // Replies that a command is refused.
 fn refuse<P: Port>(port: &mut P, tag: u64, refusal: Refusal)
-    ensures { (first : CoreState) (seen : List Call)
-        → HasReplied (IsAtOnce first seen) (P.replied port.old) (P.replied port.new) }
+    ensures { HasReplied IsAtOnce (P.replied port.old) (P.replied port.new) }
 {
     let _sent = port.reply(tag, refusal.text());
 }
 
 // Serves the commands that wait, up to as many as may be at once.
-fn serve_commands<L: Naming, E: Entry, W: Wait, P: Port, C: Clock, G: Gate>(
+fn serve_commands<L: Ledger, W: Wait, P: Port, C: Clock, G: Gate>(
     rt: &W,
-    shared: &Shared<L, E>,
-    seat: &mut Seat<L, E>,
+    shared: &Shared<L>,
+    seat: &mut Seat<L>,
     port: &mut P,
     clock: &C,
     gate: &G,
 ) -> Progress
     ensures later { IsLater seat.old seat.new }
-    ensures replied { HasReplied (IsAtOnce L.first seat.new.front) (P.replied port.old) (P.replied port.new) }
+    ensures replied { HasReplied IsAtOnce (P.replied port.old) (P.replied port.new) }
 {
     let mut progress = Progress::Nothing;
     for _ in 0..AT_ONCE {
@@ -160,16 +156,16 @@ fn reply_all<P: Port>(port: &mut P, outs: Vec<Out>)
 
 // Sends the replies to orders that were settled since it did so last, after the look in which this entry was the last
 // settled one.
-fn reply_settled<L: Naming, E: Entry, W: Wait, P: Port>(
+fn reply_settled<L: Ledger, W: Wait, P: Port>(
     rt: &W,
-    shared: &Shared<L, E>,
-    seat: &mut Seat<L, E>,
+    shared: &Shared<L>,
+    seat: &mut Seat<L>,
     port: &mut P,
     collected: &mut Option<u64>,
     seen: Look,
 ) -> Progress
     ensures later { IsLater seat.old seat.new }
-    ensures replied { HasReplied (AreSettled L.first seat.new.front) (P.replied port.old) (P.replied port.new) }
+    ensures replied { HasReplied AreSettled (P.replied port.old) (P.replied port.new) }
     ensures noted { result ≢ Progress.Short → collected.new ≡ Some seen.settled }
     ensures short { result ≡ Progress.Short → collected.new ≡ collected.old }
 {
@@ -191,17 +187,17 @@ fn reply_settled<L: Naming, E: Entry, W: Wait, P: Port>(
 /// replies to each. An order that is no entry, and a query that is not answered, get `FAIL`; one that is an entry is
 /// replied to once that is settled. It holds the lock for no call of the port. Where there is nothing to do it waits for
 /// a command, by the port's descriptor, for a reply, or for a stop.
-pub fn control_worker<L: Naming, E: Entry, W: Wait + StdClock + Net, P: Port, C: Clock, G: Gate>(
+pub fn control_worker<L: Ledger, W: Wait + StdClock + Net, P: Port, C: Clock, G: Gate>(
     rt: &W,
     alloc: Global,
-    shared: &Shared<L, E>,
-    seat: Seat<L, E>,
+    shared: &Shared<L>,
+    seat: Seat<L>,
     port: P,
     clock: &C,
     gate: &G,
-) -> (Seat<L, E>, P)
+) -> (Seat<L>, P)
     ensures later { IsLater seat result.0 }
-    ensures replied { HasReplied (IsEither L.first result.0.front) (P.replied port) (P.replied result.1) }
+    ensures replied { HasReplied IsEither (P.replied port) (P.replied result.1) }
 {
     let mut seat = seat;
     let mut port = port;

@@ -17,7 +17,6 @@ use crate::submitting::pass_entry;
 use crate::tending::{mend_first, tend};
 use crate::waking::Waiter;
 use apd_core::Input;
-use apd_history::{Entry, Naming};
 use apd_mlme::Recipient;
 use apd_radio::Radio;
 use apd_slot::{Mending, Slot};
@@ -25,6 +24,7 @@ use apd_steps::Asks;
 use std::alloc::Global;
 use std::net::Net;
 use std::sync::Wait;
+use std::sync::ledger::Ledger;
 use std::time::Clock as StdClock;
 
 // What the worker of a radio has, beside the core that it asks.
@@ -212,17 +212,17 @@ fn serve_by_steps<W: Wait, A: Serves, R: Radio, C: Clock, G: Gate>(
 /// that is tried so, or taken out, is dropped. Where none serves the slot's own is given anew what is wanted, three
 /// times at most, once a turn with a rest behind. A try that fails, for want of memory too, is no fault. After
 /// the last the slot stays down: its frames are lost, and what it wants goes on. Spares that are left are dropped.
-pub fn radio_worker<L: Naming, E: Entry, W: Wait + StdClock + Net, R: Radio, C: Clock, G: Gate>(
+pub fn radio_worker<L: Ledger, W: Wait + StdClock + Net, R: Radio, C: Clock, G: Gate>(
     rt: &W,
     alloc: Global,
-    shared: &Shared<L, E>,
-    seat: Seat<L, E>,
+    shared: &Shared<L>,
+    seat: Seat<L>,
     slot: Slot<R>,
     clock: &C,
     spares: Vec<R>,
     gate: &G,
-) -> (Seat<L, E>, Slot<R>)
-    ensures served { HasServed L.first R.model R.frames spares.items seat result.0 slot result.1 }
+) -> (Seat<L>, Slot<R>)
+    ensures served { HasServed R.model R.frames spares.items seat result.0 slot result.1 }
     ensures seat { IsLater seat result.0 }
     ensures exact { IsExact R.model slot → IsExact R.model result.1 }
     ensures bssid { bssid_of result.1 ≡ bssid_of slot }

@@ -1,26 +1,24 @@
 //! The right to ask a shared core.
 ghost use Rattle.std.specs.Prelude.{◌≡◌};
 
-use apd_history::{Entry, Front, Naming, Seats};
-use std::sync::ledger::Share;
+use std::sync::ledger::{Ledger, Share};
 use thiserror::Error;
 
 /// How many seats there are at most (own).
 pub const SEATS: u32 = 65_536;
 
 /// The right to ask the one shared core whose ledger it is of: it counts the requests by which it made entries,
-/// and has the greatest number of a settled entry that it saw, and the beginning of the core's history that it saw.
+/// and the greatest number of a settled entry that it saw.
 #[derive(Drop)]
-pub struct Seat<L: Naming, E: Entry> {
+pub struct Seat<L: Ledger> {
     pub(crate) count: u64,
     pub(crate) seen: u64,
-    pub(crate) share: Share<Seats<L>>,
-    pub(crate) front: Front<L, E>,
+    pub(crate) share: Share<L>,
     ghost one_part: { share.parts ≡ 1 },
     ghost counted: { share.amount ≡ count },
 }
 
-impl<L: Naming, E: Entry> Seat<L, E> {
+impl<L: Ledger> Seat<L> {
     /// How many of its requests became entries.
     pub fn count(&self) -> u64
         ensures { result ≡ self.now.count }

@@ -1,32 +1,24 @@
 //! A core that threads share.
-ghost use Rattle.std.specs.Prelude.{◌≡◌, ◌+◌, ◌≤◌, ℕ, List, [], IfOk, IfErr, IfSome, OnErr};
+ghost use Rattle.std.specs.Prelude.{◌≡◌, ◌+◌, ◌≤◌, ℕ, IfOk, IfErr, IfSome, OnErr};
 ghost use Rattle.std.specs.Option.{option_copied};
 ghost use Rattle.apd_slot.specs.Slots.{bssid_of};
 ghost use Rattle.apd_steps.specs.Handing.{HandsTo};
-ghost use Rattle.apd_steps.specs.Calls.{AskTells, CollectTells, SubmitTells, outs_in};
-ghost use Rattle.apd_history.specs.Calling.{by_committer};
-ghost use Rattle.apd_history.specs.Chain.{Call};
+ghost use Rattle.apd_steps.specs.Calls.{AskTells, CollectTells, SubmitTells, of_some_core, outs_in};
 ghost use Rattle.apd_desk.specs.Asking.{by_seat};
 ghost use Rattle.apd_desk.specs.Counted.{entries_in, entries_of_seats};
 ghost use Rattle.apd_desk.specs.Finding.{IsFoundBySomeCore};
-ghost use Rattle.apd_desk.specs.Moments.{IsOneMoment};
-ghost use Rattle.apd_desk.specs.Naming.{AreNames};
-ghost use Rattle.apd_desk.specs.Replying.{AreReadyIn, IsAnswerIn};
+ghost use Rattle.apd_desk.specs.Replying.{AreReadyInSomeCore, IsAnswerOfSomeCore};
 ghost use Rattle.apd_desk.specs.TicketOwner.{IsOwn};
 ghost use Rattle.apd_desk.specs.SeatProgress.{IsBehind, IsLater};
 
 use crate::board::Board;
 use crate::locked::{Locked, Look};
-use crate::naming::Names;
 use crate::news::{Conditions, News};
-use crate::owner::Owner;
-use crate::seat::{AskFault, Seat};
+use crate::seat::{AskFault, SEATS, Seat};
 use crate::waking::Bells;
 use apd_base::{Bssid, Moment};
 use apd_core::{Accepted, Answer, Core, Input, PublishFault};
 use apd_ctrl::Query;
-use apd_disk::Disk;
-use apd_history::{CommitRight, Entry, Naming};
 use apd_journal::Batch;
 use apd_mlme::{Out, Recipient};
 use apd_radio::Radio;
@@ -35,6 +27,7 @@ use apd_steps::Settles;
 use apd_store::Receipt;
 use mio::Waker;
 use std::alloc::AllocError;
+use std::sync::ledger::{Blank, Ledger};
 use std::sync::{CondvarTimeouts, Mutex, Wait};
 use std::time::{Clock, Duration};
 
@@ -45,26 +38,26 @@ const PAUSE: u64 = 1;
 /// may wait for it, and holds it for one call of the core at most, beside a look at what it has. Who only looks takes
 /// no lock.
 ///
-/// The core has one history of the calls that changed it. Who calls has a front, a beginning of the history that it saw,
-/// in a seat or beside the right to commit. Of each call is said, by the same definitions as of the core's own, that it
-/// was made of the core to which the history had come, behind what the caller's front had seen; the front then sees up to
-/// it. No clause speaks of waiting.
+/// No clause says what the core is at the moment of a call, since others may call before and after it: of each
+/// call that is said, by the same definitions as of the core's own, where it has the lock. No clause speaks of
+/// waiting.
 #[derive(Drop)]
-pub struct Shared<L: Naming, E: Entry> {
-    locked: Mutex<Locked<L, E>>,
+pub struct Shared<L: Ledger> {
+    locked: Mutex<Locked<L>>,
     board: Board,
     conditions: Conditions,
     bells: Bells,
 }
 
-impl<L: Naming, E: Entry> Shared<L, E> {
-    /// Shares a core among as many seats as there may be. `L` is by these names, which so pick it, and its history begins
-    /// with this core: a seat fits the one shared core of its own names.
-    pub fn new(core: Core, names: Names<E>) -> Shared<L, E>
-        requires names { AreNames L.seats L.table L.commits names }
-        requires first { core ≡ L.first }
+impl<L: Ledger> Shared<L> {
+    /// Shares a core among as many seats as there may be. `L` is the ledger of this blank, which so picks it: a
+    /// seat fits the one shared core of its own ledger.
+    pub fn new(core: Core, blank: Blank) -> Shared<L>
+        requires name { blank.name ≡ L.name }
+        requires parts { blank.parts ≡ L.parts }
+        requires all { blank.parts ≡ SEATS }
     {
-        let locked = Locked::new(core, names);
+        let locked = Locked::new(core, blank);
         Shared {
             board: Board::new(locked.look()),
             locked: Mutex::new(locked),
@@ -74,17 +67,10 @@ impl<L: Naming, E: Entry> Shared<L, E> {
     }
 
     /// A seat that was not given yet; none exactly where all were given. It takes no memory.
-    pub fn seat(&self, rt: &impl Wait) -> Option<Seat<L, E>>
+    pub fn seat(&self, rt: &impl Wait) -> Option<Seat<L>>
         ensures { IfSome result (λ seat. (seat.count ≡ 0) × (seat.seen ≡ 0)) }
     {
         self.locked.lock(rt).give_seat()
-    }
-
-    /// The right to commit, of who has seen nothing yet; none where it was given. It takes no memory.
-    pub fn commit_right(&self, rt: &impl Wait) -> Option<CommitRight<L, E>>
-        ensures { IfSome result (λ right. right.front ≡ []) }
-    {
-        self.locked.lock(rt).give_right()
     }
 
     /// Accepts a request at a moment: the core's `accept`. The seat counts it exactly where it is an entry, and
@@ -92,11 +78,11 @@ impl<L: Naming, E: Entry> Shared<L, E> {
     pub fn submit<'a>(
         &self,
         rt: &impl Wait,
-        seat: &mut Seat<L, E>,
+        seat: &mut Seat<L>,
         input: Input<'a>,
         moment: Moment,
     ) -> Result<Accepted<'a>, AllocError>
-        ensures tells { by_seat L.first (SubmitTells input.entry moment result) seat.old seat.new }
+        ensures tells { by_seat (SubmitTells input.entry moment result) seat.old seat.new }
         ensures own { IfOk result (IsOwn input.entry moment) }
         ensures count { IfOk result (λ answer. seat.new.count ≡ seat.old.count + entries_in answer) }
         ensures err { OnErr result (seat.new.count ≡ seat.old.count) }
@@ -113,11 +99,11 @@ impl<L: Naming, E: Entry> Shared<L, E> {
     pub(crate) fn submit_in_burst<'a>(
         &self,
         rt: &impl Wait,
-        seat: &mut Seat<L, E>,
+        seat: &mut Seat<L>,
         input: Input<'a>,
         moment: Moment,
     ) -> Result<Accepted<'a>, AllocError>
-        ensures tells { by_seat L.first (SubmitTells input.entry moment result) seat.old seat.new }
+        ensures tells { by_seat (SubmitTells input.entry moment result) seat.old seat.new }
         ensures own { IfOk result (IsOwn input.entry moment) }
         ensures count { IfOk result (λ answer. seat.new.count ≡ seat.old.count + entries_in answer) }
         ensures err { OnErr result (seat.new.count ≡ seat.old.count) }
@@ -142,10 +128,10 @@ impl<L: Naming, E: Entry> Shared<L, E> {
     ///
     /// Errors: `Behind` exactly where the last settled entry, whose number it tells, comes before what the seat saw;
     /// `NoMemory`.
-    pub fn ask(&self, rt: &impl Wait, seat: &mut Seat<L, E>, query: Query) -> Result<Answer, AskFault>
-        ensures tells { by_seat L.first (AskTells query result) seat.old seat.new }
+    pub fn ask(&self, rt: &impl Wait, seat: &mut Seat<L>, query: Query) -> Result<Answer, AskFault>
+        ensures tells { by_seat (AskTells query result) seat.old seat.new }
         ensures own { IfOk result (λ answer. answer.query ≡ query) }
-        ensures told { IfOk result (IsAnswerIn L.first seat.new.front) }
+        ensures told { IfOk result IsAnswerOfSomeCore }
         ensures seen { IfOk result (λ answer. (answer.number ≡ seat.new.seen) × (seat.old.seen ≤ seat.new.seen)) }
         ensures behind { (number : ℕ) → result ≡ Err (AskFault.Behind number) → IsBehind number seat.old.seen }
         ensures err { OnErr result (seat.new.seen ≡ seat.old.seen) }
@@ -159,11 +145,11 @@ impl<L: Naming, E: Entry> Shared<L, E> {
     pub fn collect(
         &self,
         rt: &impl Wait,
-        seat: &mut Seat<L, E>,
+        seat: &mut Seat<L>,
         to: Recipient,
     ) -> Result<Vec<Out>, AllocError>
-        ensures tells { by_seat L.first (CollectTells to (outs_in (λ outs. outs.items) result)) seat.old seat.new }
-        ensures outs { IfOk result (λ outs. AreReadyIn L.first seat.new.front to outs.items) }
+        ensures tells { by_seat (CollectTells to (outs_in (λ outs. outs.items) result)) seat.old seat.new }
+        ensures outs { IfOk result (λ outs. AreReadyInSomeCore to outs.items) }
         ensures never_back { seat.old.seen ≤ seat.new.seen }
         ensures err { OnErr result (seat.new.seen ≡ seat.old.seen) }
         ensures count { seat.new.count ≡ seat.old.count }
@@ -176,10 +162,10 @@ impl<L: Naming, E: Entry> Shared<L, E> {
     pub fn hand_to<R: Radio>(
         &self,
         rt: &impl Wait,
-        seat: &mut Seat<L, E>,
+        seat: &mut Seat<L>,
         slot: &mut Slot<R>,
     ) -> Result<usize, AllocError>
-        ensures hands { by_seat L.first (λ core after. HandsTo (bssid_of slot.old) result core after slot.old slot.new)
+        ensures hands { by_seat (λ core after. HandsTo (bssid_of slot.old) result core after slot.old slot.new)
             seat.old seat.new }
         ensures later { IsLater seat.old seat.new }
         ensures count { seat.new.count ≡ seat.old.count }
@@ -187,25 +173,10 @@ impl<L: Naming, E: Entry> Shared<L, E> {
         self.locked.lock(rt).hand_to(seat, slot)
     }
 
-    /// One moment of the shared core, of who commits and of a seat: the history is one list of calls, of which each saw a
-    /// beginning, and who commits saw all commits. What that comes to is the law of a moment, of `apd_moment`. It changes
-    /// nothing.
-    pub fn moment<D: Disk>(
-        &self,
-        rt: &impl Wait,
-        owner: &mut Owner<L, E, D>,
-        seat: &mut Seat<L, E>,
-    )
-        ensures moment { (all : List Call) × IsOneMoment D.model L.first owner.old seat.old.front all }
-        ensures owner { owner.new ≡ owner.old }
-        ensures seat { seat.new.front ≡ seat.old.front }
-    {
-        self.locked.lock(rt).moment(owner, seat);
-    }
-
     /// The core, and how many entries it accepted since it was shared: the sum of the seats' counts. It waits for
     /// nobody and takes no memory. It is refused exactly where a seat is missing, and hands all back.
-    pub fn close(self, seats: Vec<Seat<L, E>>) -> Result<(Core, u64), (Shared<L, E>, Vec<Seat<L, E>>)>
+    pub fn close(self, seats: Vec<Seat<L>>) -> Result<(Core, u64), (Shared<L>, Vec<Seat<L>>)>
+        requires { L.parts ≡ SEATS }
         ensures counted { IfOk result (λ closed. closed.1 ≡ entries_of_seats seats.items) }
         ensures back { IfErr result (λ back. back.1 ≡ seats) }
     {
@@ -321,25 +292,24 @@ impl<L: Naming, E: Entry> Shared<L, E> {
 
 /// A shared core, for the worker that commits.
 #[derive(Drop)]
-pub(crate) struct Committed<'a, L: Naming, E: Entry, W> {
+pub(crate) struct Committed<'a, L: Ledger, W> {
     pub(crate) rt: &'a W,
-    pub(crate) shared: &'a Shared<L, E>,
-    pub(crate) right: CommitRight<L, E>,
+    pub(crate) shared: &'a Shared<L>,
 }
 
-// Others may call before and after, but none of them commits: each call stands in the history behind what was seen.
-impl<L: Naming, E: Entry, W: Wait> Settles for Committed<'_, L, E, W> {
-    ghost made = { λ call old new. by_committer L.first call old.right.front new.right.front };
+// Others may call before and after: what is known is that there was a core that went so.
+impl<L: Ledger, W: Wait> Settles for Committed<'_, L, W> {
+    ghost made = { of_some_core };
 
     fn take(&mut self) -> Result<Option<Batch>, AllocError> {
-        self.shared.locked.lock(self.rt).take(&mut self.right)
+        self.shared.locked.lock(self.rt).take()
     }
 
     // It wakes who waits for what is settled, and at their sockets those for whom outs are ready.
     fn publish(&mut self, receipt: Receipt) -> Result<(), (Receipt, PublishFault)> {
         let shared = self.shared;
         let mut locked = shared.locked.lock(self.rt);
-        let answer = locked.publish(&mut self.right, receipt);
+        let answer = locked.publish(receipt);
         shared.board.post_settled(&locked);
         let ready = shared.bells.ready_places(&locked);
         drop(locked);
@@ -351,6 +321,6 @@ impl<L: Naming, E: Entry, W: Wait> Settles for Committed<'_, L, E, W> {
     }
 
     fn fail(&mut self) {
-        self.shared.locked.lock(self.rt).fail(&mut self.right);
+        self.shared.locked.lock(self.rt).fail();
     }
 }

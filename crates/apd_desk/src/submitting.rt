@@ -8,9 +8,9 @@ use crate::seat::Seat;
 use crate::shared::Shared;
 use apd_base::Moment;
 use apd_core::{Accepted, Input};
-use apd_history::{Entry, Naming};
 use std::alloc::AllocError;
 use std::sync::Wait;
+use std::sync::ledger::Ledger;
 
 /// Passes the gate where a request became an entry. Tells whether it did.
 pub(crate) fn pass_entry<G: Gate>(answer: Result<Accepted<'_>, AllocError>, gate: &G) -> bool
@@ -26,10 +26,10 @@ pub(crate) fn pass_entry<G: Gate>(answer: Result<Accepted<'_>, AllocError>, gate
 }
 
 /// Submits a request, and passes the gate where it is an entry. Tells whether it is.
-pub(crate) fn submit_passing<L: Naming, E: Entry, W: Wait, G: Gate>(
+pub(crate) fn submit_passing<L: Ledger, W: Wait, G: Gate>(
     rt: &W,
-    shared: &Shared<L, E>,
-    seat: &mut Seat<L, E>,
+    shared: &Shared<L>,
+    seat: &mut Seat<L>,
     input: Input<'_>,
     moment: Moment,
     gate: &G,

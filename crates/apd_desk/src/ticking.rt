@@ -16,9 +16,9 @@ use crate::shared::Shared;
 use crate::submitting::pass_entry;
 use apd_base::Moment;
 use apd_core::Input;
-use apd_history::{Entry, Naming};
 use apd_steps::Asks;
 use std::sync::Wait;
+use std::sync::ledger::Ledger;
 use std::time::{Clock as StdClock, Duration, Instant};
 
 /// How far the moments of two turns are apart at least, in milliseconds.
@@ -101,14 +101,14 @@ fn tick_by_steps<W: Wait + StdClock, A: Serves, C: Clock, G: Gate>(
 /// at one moment until one is no entry, as where nobody is silent any more: 256 at most, and for a few milliseconds, but
 /// one at least. The worker that commits is woken behind the last of them. The moments of two turns in a row are a second
 /// apart at least: after a jump of the clock there is one turn.
-pub fn tick_worker<L: Naming, E: Entry, W: Wait + StdClock, C: Clock, G: Gate>(
+pub fn tick_worker<L: Ledger, W: Wait + StdClock, C: Clock, G: Gate>(
     rt: &W,
-    shared: &Shared<L, E>,
-    seat: Seat<L, E>,
+    shared: &Shared<L>,
+    seat: Seat<L>,
     clock: &C,
     gate: &G,
-) -> Seat<L, E>
-    ensures ticked { HasTicked (by_seat L.first) seat result }
+) -> Seat<L>
+    ensures ticked { HasTicked by_seat seat result }
     ensures later { IsLater seat result }
 {
     let mut core = Asked::new(rt, shared, seat);

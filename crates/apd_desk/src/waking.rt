@@ -4,7 +4,6 @@ use crate::locked::{Locked, Look};
 use crate::news::News;
 use crate::shared::Shared;
 use apd_base::limits::MAX_BSS;
-use apd_history::{Entry, Naming};
 use apd_mlme::Recipient;
 use mio::unix::SourceFd;
 use mio::{Events, Interest, Poll, Registry, Token, Waker};
@@ -13,6 +12,7 @@ use std::array;
 use std::net::Net;
 use std::os::fd::RawFd;
 use std::sync::atomic::{AtomicBool, Ordering};
+use std::sync::ledger::Ledger;
 use std::sync::{OnceLock, Wait};
 use std::time::Clock;
 
@@ -68,7 +68,7 @@ impl Bells {
     }
 
     /// At which places are those that wait at their sockets, and for whom outs are ready.
-    pub(crate) fn ready_places<L: Naming, E: Entry>(&self, locked: &Locked<L, E>) -> [bool; RECIPIENTS] {
+    pub(crate) fn ready_places<L: Ledger>(&self, locked: &Locked<L>) -> [bool; RECIPIENTS] {
         let mut ready = [false; RECIPIENTS];
         for (place, ready) in self.places.iter().zip(&mut ready) {
             *ready = place.get().is_some_and(|bell| bell.asleep.load(Ordering::SeqCst)
@@ -103,10 +103,10 @@ struct Watch {
 
 impl Watch {
     // None where the system has no such thing, memory lacks, or as many wait already.
-    fn open<L: Naming, E: Entry, N: Net>(
+    fn open<L: Ledger, N: Net>(
         net: &N,
         alloc: Global,
-        shared: &Shared<L, E>,
+        shared: &Shared<L>,
         to: Recipient,
     ) -> Option<Watch> {
         let events = Events::with_capacity(alloc, 2).ok()?;
@@ -122,7 +122,7 @@ impl Watch {
 
     // Waits until the descriptor can be read, or its bell rings, if since a look nothing was settled. Tells whether it
     // could wait for that.
-    fn wait<L: Naming, E: Entry>(&mut self, shared: &Shared<L, E>, descriptor: RawFd, seen: Look) -> bool {
+    fn wait<L: Ledger>(&mut self, shared: &Shared<L>, descriptor: RawFd, seen: Look) -> bool {
         if !ask_for(self.poll.registry(), descriptor) {
             return false;
         }
@@ -154,10 +154,10 @@ pub(crate) struct Waiter {
 
 impl Waiter {
     /// It is to be made before the worker's first look: from then on no news is lost.
-    pub(crate) fn new<L: Naming, E: Entry, N: Net>(
+    pub(crate) fn new<L: Ledger, N: Net>(
         net: &N,
         alloc: Global,
-        shared: &Shared<L, E>,
+        shared: &Shared<L>,
         to: Recipient,
     ) -> Waiter {
         Waiter {
@@ -166,9 +166,9 @@ impl Waiter {
     }
 
     // Waits at this descriptor, if there is one. Tells whether it could.
-    fn wait_at<L: Naming, E: Entry>(
+    fn wait_at<L: Ledger>(
         &mut self,
-        shared: &Shared<L, E>,
+        shared: &Shared<L>,
         descriptor: Option<RawFd>,
         seen: Look,
     ) -> bool {
@@ -181,10 +181,10 @@ impl Waiter {
     /// Waits until this descriptor can be read, outs are ready or all are to stop, if since this look there was nothing
     /// to do. For the pause at most it waits where something is to be tried again, and where it can't wait for that. No
     /// clause speaks of waiting.
-    pub(crate) fn wait<L: Naming, E: Entry, W: Wait + Clock>(
+    pub(crate) fn wait<L: Ledger, W: Wait + Clock>(
         &mut self,
         rt: &W,
-        shared: &Shared<L, E>,
+        shared: &Shared<L>,
         progress: Progress,
         descriptor: Option<RawFd>,
         seen: Look,

@@ -1,18 +1,18 @@
 // Requests are accepted while a sync is under way.
-ghost use Rattle.std.specs.Prelude.{◌≡◌, IfSome};
-ghost use Rattle.apd_desk.specs.Naming.{AreNames};
+ghost use Rattle.std.specs.Prelude.{◌≡◌};
 
-use crate::common::{Host, blank_disk, commit, flusher, new_seat, share, started_core, Named, named_core};
+use crate::common::{Host, blank_disk, commit, flusher, new_seat, share, started_core};
 use crate::expect::expect;
 use crate::hold::{HoldDisk, Turnstile};
 use crate::operator::{Operator, are, serve_operator};
-use apd_desk::{Seat, Shared, Entry, Naming, Change};
+use apd_desk::{Seat, Shared};
 use apd_disk::MemDisk;
 use apd_flusher::Flusher;
 use std::alloc::Global;
 use std::marker::Brand;
 use std::net::Net;
 use std::sync::Wait;
+use std::sync::ledger::{Blank, Ledger};
 use std::thread::join;
 use std::time::Clock;
 
@@ -24,11 +24,11 @@ const ORDERS: &[&[u8]] = &[
 const REPLIES: &[&[u8]] = &[b"OK\n", b"OK\n"];
 
 // Serves two orders that are given once the sync is held. Whether both are replied to.
-fn serve<L: Naming, E: Entry, W: Wait + Clock + Net>(
+fn serve<L: Ledger, W: Wait + Clock + Net>(
     rt: &W,
     alloc: Global,
-    shared: &Shared<L, E>,
-    seat: Seat<L, E>,
+    shared: &Shared<L>,
+    seat: Seat<L>,
     turnstile: &Turnstile,
 ) -> bool {
     let operator = Operator::new(rt, alloc, shared, Some(turnstile), ORDERS);
@@ -39,11 +39,11 @@ fn serve<L: Naming, E: Entry, W: Wait + Clock + Net>(
 }
 
 // Commits and serves at once. Whether both orders are replied to.
-fn commit_and_serve<L: Naming + Send + Sync, E: Entry + Send + Sync, W: Host>(
+fn commit_and_serve<L: Ledger + Send + Sync, W: Host>(
     rt: &W,
     alloc: Global,
-    shared: &Shared<L, E>,
-    seat: Seat<L, E>,
+    shared: &Shared<L>,
+    seat: Seat<L>,
     flusher: Flusher<HoldDisk<'_, MemDisk>>,
     turnstile: &Turnstile,
 ) -> bool {
@@ -60,10 +60,10 @@ fn holding_flusher(alloc: Global, turnstile: &Turnstile) -> Option<Flusher<HoldD
 }
 
 // The same, of a new seat and a new flusher.
-fn replies_meanwhile<L: Naming + Send + Sync, E: Entry + Send + Sync, W: Host>(
+fn replies_meanwhile<L: Ledger + Send + Sync, W: Host>(
     rt: &W,
     alloc: Global,
-    shared: &Shared<L, E>,
+    shared: &Shared<L>,
     turnstile: &Turnstile,
 ) -> Option<bool> {
     let (seat, flusher) = new_seat(rt, shared).zip(holding_flusher(alloc, turnstile))?;
@@ -72,10 +72,10 @@ fn replies_meanwhile<L: Naming + Send + Sync, E: Entry + Send + Sync, W: Host>(
 }
 
 // Whether the sync was held until two orders were accepted, and whether both were replied to.
-fn holds<L: Naming + Send + Sync, E: Entry + Send + Sync, W: Host>(
+fn holds<L: Ledger + Send + Sync, W: Host>(
     rt: &W,
     alloc: Global,
-    shared: &Shared<L, E>,
+    shared: &Shared<L>,
 ) -> (bool, Option<bool>) {
     let turnstile = Turnstile::new();
     let replied = replies_meanwhile(rt, alloc, shared, &turnstile);
@@ -83,15 +83,16 @@ fn holds<L: Naming + Send + Sync, E: Entry + Send + Sync, W: Host>(
 }
 
 // The same, of a new shared core.
-fn accepts_while_held<L: Naming + Send + Sync, E: Entry + Send + Sync, W: Host>(
+fn accepts_while_held<L: Ledger + Send + Sync, W: Host>(
     rt: &W,
     alloc: Global,
-    named: Option<Named<E>>,
+    blank: Blank,
 ) -> Option<(bool, Option<bool>)>
-    requires names { IfSome named (λ named. AreNames L.seats L.table L.commits named.names) }
-    requires first { IfSome named (λ named. named.core ≡ L.first) }
+    requires name { blank.name ≡ L.name }
+    requires parts { blank.parts ≡ L.parts }
+    requires all { blank.parts ≡ 65536 }
 {
-    let shared: Shared<L, E> = share(named)?;
+    let shared: Shared<L> = share(started_core(alloc), blank)?;
     let held = holds(rt, alloc, &shared);
     drop(shared);
     Some(held)
@@ -99,6 +100,6 @@ fn accepts_while_held<L: Naming + Send + Sync, E: Entry + Send + Sync, W: Host>(
 
 #[test]
 fn sync_while_accepting(rt: HostRuntime) {
-    let held = accepts_while_held::<Brand, Change, _>(&rt, rt.alloc(), named_core(rt.alloc(), started_core(rt.alloc())));
+    let held = accepts_while_held::<Brand, _>(&rt, rt.alloc(), Blank::new(65_536));
     expect(&rt, held, Some((true, Some(true))));
 }

@@ -1,24 +1,27 @@
 // What a seat collects, and what it is told afterwards.
-ghost use Rattle.std.specs.Prelude.{◌≡◌, IfSome};
-ghost use Rattle.apd_desk.specs.Naming.{AreNames};
+ghost use Rattle.std.specs.Prelude.{◌≡◌};
 
-use crate::common::{ASSOCIATION, Host, WLAN0, authentication, commit, commit_all, enters_both, finds_station, memory_flusher, new_seat, settles_in_memory, share, started_core, stop, submits, Named, named_core};
+use crate::common::{
+    ASSOCIATION, Host, WLAN0, authentication, commit, commit_all, enters_both, finds_station,
+    memory_flusher, new_seat, settles_in_memory, share, started_core, stop, submits,
+};
 use crate::expect::expect;
 use apd_core::Core;
-use apd_desk::{NoGate, Seat, Shared, Entry, Naming, Change};
+use apd_desk::{NoGate, Seat, Shared};
 use apd_disk::MemDisk;
 use apd_flusher::Flusher;
 use apd_mlme::{Out, Recipient};
 use std::alloc::Global;
 use std::marker::Brand;
 use std::sync::Wait;
+use std::sync::ledger::{Blank, Ledger};
 use std::thread::{join, yield_now};
 use std::time::Clock;
 
 /// How often a seat collects at most, each time with a yield: a test that waits for an answer ends.
 const LOOKS: u64 = 10_000_000;
 
-fn collect<L: Naming, E: Entry, W: Wait>(rt: &W, shared: &Shared<L, E>, seat: &mut Seat<L, E>) -> Option<Vec<Out>> {
+fn collect<L: Ledger, W: Wait>(rt: &W, shared: &Shared<L>, seat: &mut Seat<L>) -> Option<Vec<Out>> {
     shared.collect(rt, seat, Recipient::Radio(WLAN0)).ok()
 }
 
@@ -31,7 +34,7 @@ fn installs(outs: &[Out]) -> bool {
     false
 }
 
-fn collects_one<L: Naming, E: Entry, W: Wait>(rt: &W, shared: &Shared<L, E>, seat: &mut Seat<L, E>) -> bool {
+fn collects_one<L: Ledger, W: Wait>(rt: &W, shared: &Shared<L>, seat: &mut Seat<L>) -> bool {
     match collect(rt, shared, seat) {
         Some(outs) => installs(outs.as_slice()),
         None => false,
@@ -39,7 +42,7 @@ fn collects_one<L: Naming, E: Entry, W: Wait>(rt: &W, shared: &Shared<L, E>, sea
 }
 
 // Collects until a station is installed.
-fn collects_install<L: Naming, E: Entry, W: Wait>(rt: &W, shared: &Shared<L, E>, seat: &mut Seat<L, E>) -> bool {
+fn collects_install<L: Ledger, W: Wait>(rt: &W, shared: &Shared<L>, seat: &mut Seat<L>) -> bool {
     for _look in 0..LOOKS {
         if collects_one(rt, shared, seat) {
             return true;
@@ -49,12 +52,12 @@ fn collects_install<L: Naming, E: Entry, W: Wait>(rt: &W, shared: &Shared<L, E>,
     false
 }
 
-fn submits_both<L: Naming, E: Entry, W: Wait>(rt: &W, shared: &Shared<L, E>, seat: &mut Seat<L, E>) -> bool {
+fn submits_both<L: Ledger, W: Wait>(rt: &W, shared: &Shared<L>, seat: &mut Seat<L>) -> bool {
     submits(rt, shared, seat, &authentication(0xaa)) && submits(rt, shared, seat, &ASSOCIATION)
 }
 
 // Lets the station associate, and asks for it at once where its answer was collected.
-fn associates<L: Naming, E: Entry, W: Wait>(rt: &W, shared: &Shared<L, E>, seat: Seat<L, E>) -> bool {
+fn associates<L: Ledger, W: Wait>(rt: &W, shared: &Shared<L>, seat: Seat<L>) -> bool {
     let mut seat = seat;
     let told = submits_both(rt, shared, &mut seat)
         && collects_install(rt, shared, &mut seat)
@@ -64,11 +67,11 @@ fn associates<L: Naming, E: Entry, W: Wait>(rt: &W, shared: &Shared<L, E>, seat:
     told
 }
 
-fn commit_and_associate<L: Naming + Send + Sync, E: Entry + Send + Sync, W: Host>(
+fn commit_and_associate<L: Ledger + Send + Sync, W: Host>(
     rt: &W,
-    shared: &Shared<L, E>,
+    shared: &Shared<L>,
     flusher: Flusher<MemDisk>,
-    seat: Seat<L, E>,
+    seat: Seat<L>,
 ) -> bool {
     join(
         rt,
@@ -79,24 +82,25 @@ fn commit_and_associate<L: Naming + Send + Sync, E: Entry + Send + Sync, W: Host
 }
 
 // The same, of a new seat and a new flusher.
-fn tells_new_seat<L: Naming + Send + Sync, E: Entry + Send + Sync, W: Host>(
+fn tells_new_seat<L: Ledger + Send + Sync, W: Host>(
     rt: &W,
     alloc: Global,
-    shared: &Shared<L, E>,
+    shared: &Shared<L>,
 ) -> Option<bool> {
     let (seat, flusher) = new_seat(rt, shared).zip(memory_flusher(alloc))?;
     Some(commit_and_associate(rt, shared, flusher, seat))
 }
 
-fn tells_what_was_collected<L: Naming + Send + Sync, E: Entry + Send + Sync, W: Host>(
+fn tells_what_was_collected<L: Ledger + Send + Sync, W: Host>(
     rt: &W,
     alloc: Global,
-    named: Option<Named<E>>,
+    blank: Blank,
 ) -> Option<bool>
-    requires names { IfSome named (λ named. AreNames L.seats L.table L.commits named.names) }
-    requires first { IfSome named (λ named. named.core ≡ L.first) }
+    requires name { blank.name ≡ L.name }
+    requires parts { blank.parts ≡ L.parts }
+    requires all { blank.parts ≡ 65536 }
 {
-    let shared: Shared<L, E> = share(named)?;
+    let shared: Shared<L> = share(started_core(alloc), blank)?;
     let told = tells_new_seat(rt, alloc, &shared);
     drop(shared);
     told
@@ -104,7 +108,7 @@ fn tells_what_was_collected<L: Naming + Send + Sync, E: Entry + Send + Sync, W: 
 
 #[test]
 fn a_seat_is_told_of_what_it_collected(rt: HostRuntime) {
-    let told = tells_what_was_collected::<Brand, Change, _>(&rt, rt.alloc(), named_core(rt.alloc(), started_core(rt.alloc())));
+    let told = tells_what_was_collected::<Brand, _>(&rt, rt.alloc(), Blank::new(65_536));
     expect(&rt, told, Some(true));
 }
 
@@ -128,11 +132,11 @@ fn outs_of_core(alloc: Global) -> Option<Vec<Out>> {
     outs
 }
 
-fn collect_both<L: Naming, E: Entry, W: Wait + Clock>(
+fn collect_both<L: Ledger, W: Wait + Clock>(
     rt: &W,
     alloc: Global,
-    shared: &Shared<L, E>,
-    seat: &mut Seat<L, E>,
+    shared: &Shared<L>,
+    seat: &mut Seat<L>,
 ) -> Option<Vec<Out>> {
     if submits_both(rt, shared, seat) && commit_all(rt, alloc, shared) {
         collect(rt, shared, seat)
@@ -142,10 +146,10 @@ fn collect_both<L: Naming, E: Entry, W: Wait + Clock>(
 }
 
 // What a new seat collects after the two frames.
-fn outs_of_new_seat<L: Naming, E: Entry, W: Wait + Clock>(
+fn outs_of_new_seat<L: Ledger, W: Wait + Clock>(
     rt: &W,
     alloc: Global,
-    shared: &Shared<L, E>,
+    shared: &Shared<L>,
 ) -> Option<Vec<Out>> {
     let mut seat = new_seat(rt, shared)?;
     let outs = collect_both(rt, alloc, shared, &mut seat);
@@ -154,11 +158,12 @@ fn outs_of_new_seat<L: Naming, E: Entry, W: Wait + Clock>(
 }
 
 // The same, of a new shared core.
-fn outs_of_seat<L: Naming, E: Entry, W: Wait + Clock>(rt: &W, alloc: Global, named: Option<Named<E>>) -> Option<Vec<Out>>
-    requires names { IfSome named (λ named. AreNames L.seats L.table L.commits named.names) }
-    requires first { IfSome named (λ named. named.core ≡ L.first) }
+fn outs_of_seat<L: Ledger, W: Wait + Clock>(rt: &W, alloc: Global, blank: Blank) -> Option<Vec<Out>>
+    requires name { blank.name ≡ L.name }
+    requires parts { blank.parts ≡ L.parts }
+    requires all { blank.parts ≡ 65536 }
 {
-    let shared: Shared<L, E> = share(named)?;
+    let shared: Shared<L> = share(started_core(alloc), blank)?;
     let outs = outs_of_new_seat(rt, alloc, &shared);
     drop(shared);
     outs
@@ -200,6 +205,6 @@ fn are_same(one: &[Out], other: &[Out]) -> bool {
 #[test]
 fn what_is_collected_is_what_a_core_hands_out(rt: HostRuntime) {
     let alloc = rt.alloc();
-    let collected = outs_of_seat::<Brand, Change, _>(&rt, alloc, named_core(alloc, started_core(alloc)));
+    let collected = outs_of_seat::<Brand, _>(&rt, alloc, Blank::new(65_536));
     expect(&rt, same(collected, outs_of_core(alloc)), Some(3));
 }

@@ -1,16 +1,18 @@
 // What a committer holds when the commits begin, and what waits in it when they end.
-ghost use Rattle.std.specs.Prelude.{◌≡◌, IfSome};
-ghost use Rattle.apd_desk.specs.Naming.{AreNames};
+ghost use Rattle.std.specs.Prelude.{◌≡◌};
 
-use crate::common::{asked_core, finds_station, memory_flusher, new_seat, share, started_core, stop, Named, named_core};
+use crate::common::{
+    asked_core, finds_station, memory_flusher, new_seat, share, started_core, stop,
+};
 use crate::expect::expect;
 use apd_core::Core;
-use apd_desk::{NoGate, Owner, Shared, commit_all, Entry, Naming, Change};
+use apd_desk::{NoGate, Shared, commit_all};
 use apd_disk::{Disk, MemDisk};
 use apd_flusher::Committer;
 use std::alloc::Global;
 use std::marker::Brand;
 use std::sync::Wait;
+use std::sync::ledger::{Blank, Ledger};
 use std::time::Clock;
 
 // A committer over a new store that has the batch of a core under way.
@@ -21,19 +23,17 @@ fn busy_committer(alloc: Global, core: &mut Core) -> Option<Committer<MemDisk>> 
     loads.then_some(committer)
 }
 
-// Commits until a stop by the one right to commit, without the clauses of that. None is where the right was given.
-fn work<L: Naming, E: Entry, W: Wait + Clock, D: Disk + Drop>(
+// Commits until a stop, without the clauses of that.
+fn work<L: Ledger, W: Wait + Clock, D: Disk>(
     rt: &W,
-    shared: &Shared<L, E>,
-    committer: Committer<D>,
-) -> Option<Committer<D>> {
-    let right = shared.commit_right(rt)?;
-    let (owner, _ending) = commit_all(rt, shared, Owner::new(committer, right), &NoGate);
-    Some(owner.into_committer())
+    shared: &Shared<L>,
+    committer: &mut Committer<D>,
+) {
+    let _ending = commit_all(rt, shared, committer, &NoGate);
 }
 
 // Whether a station is there, as a new seat is told.
-fn tells<L: Naming, E: Entry, W: Wait>(rt: &W, shared: &Shared<L, E>) -> Option<bool> {
+fn tells<L: Ledger, W: Wait>(rt: &W, shared: &Shared<L>) -> Option<bool> {
     let mut seat = new_seat(rt, shared)?;
     let told = finds_station(rt, shared, &mut seat);
     drop(seat);
@@ -41,38 +41,31 @@ fn tells<L: Naming, E: Entry, W: Wait>(rt: &W, shared: &Shared<L, E>) -> Option<
 }
 
 // Whether a station is there once the committer, where there is one, has ended.
-fn tells_once_settled<L: Naming, E: Entry, W: Wait + Clock>(
+fn tells_once_settled<L: Ledger, W: Wait + Clock>(
     rt: &W,
-    shared: &Shared<L, E>,
+    shared: &Shared<L>,
     committer: Option<Committer<MemDisk>>,
 ) -> Option<bool> {
+    let mut committer = committer?;
     stop(rt, shared);
-    let committer = work(rt, shared, committer?)?;
+    work(rt, shared, &mut committer);
     drop(committer);
     tells(rt, shared)
 }
 
-// A core at which a station associates, and a committer that has the batch of that under way.
-fn held_batch<E: Entry>(alloc: Global) -> (Option<Named<E>>, Option<Committer<MemDisk>>) {
-    match asked_core(alloc) {
-        Some(mut core) => {
-            let committer = busy_committer(alloc, &mut core);
-            (named_core(alloc, Some(core)), committer)
-        }
-        None => (None, None),
-    }
-}
-
 // Whether a station is there, of whose association a committer held the batch.
-fn settles_held_batch<L: Naming, E: Entry, W: Wait + Clock>(
+fn settles_held_batch<L: Ledger, W: Wait + Clock>(
     rt: &W,
-    named: Option<Named<E>>,
-    committer: Option<Committer<MemDisk>>,
+    alloc: Global,
+    blank: Blank,
 ) -> Option<bool>
-    requires names { IfSome named (λ named. AreNames L.seats L.table L.commits named.names) }
-    requires first { IfSome named (λ named. named.core ≡ L.first) }
+    requires name { blank.name ≡ L.name }
+    requires parts { blank.parts ≡ L.parts }
+    requires all { blank.parts ≡ 65536 }
 {
-    let shared: Shared<L, E> = share(named)?;
+    let mut core = asked_core(alloc)?;
+    let committer = busy_committer(alloc, &mut core);
+    let shared: Shared<L> = Shared::new(core, blank);
     let told = tells_once_settled(rt, &shared, committer);
     drop(shared);
     told
@@ -80,8 +73,7 @@ fn settles_held_batch<L: Naming, E: Entry, W: Wait + Clock>(
 
 #[test]
 fn a_batch_that_a_committer_held_is_settled(rt: HostRuntime) {
-    let (named, committer) = held_batch(rt.alloc());
-    let settled = settles_held_batch::<Brand, Change, _>(&rt, named, committer);
+    let settled = settles_held_batch::<Brand, _>(&rt, rt.alloc(), Blank::new(65_536));
     expect(&rt, settled, Some(true));
 }
 
@@ -103,21 +95,23 @@ fn receipt_waits<D: Disk + Drop>(committer: Committer<D>) -> bool {
 }
 
 // Whether the receipt of another core's batch waits in the committer when the commits have ended.
-fn waits_behind<L: Naming, E: Entry, W: Wait + Clock>(
+fn waits_behind<L: Ledger, W: Wait + Clock>(
     rt: &W,
     alloc: Global,
-    shared: &Shared<L, E>,
+    shared: &Shared<L>,
 ) -> Option<bool> {
-    let committer = work(rt, shared, committer_of_another(alloc)?)?;
+    let mut committer = committer_of_another(alloc)?;
+    work(rt, shared, &mut committer);
     Some(receipt_waits(committer))
 }
 
 // The same, of a new shared core.
-fn waits<L: Naming, E: Entry, W: Wait + Clock>(rt: &W, alloc: Global, named: Option<Named<E>>) -> Option<bool>
-    requires names { IfSome named (λ named. AreNames L.seats L.table L.commits named.names) }
-    requires first { IfSome named (λ named. named.core ≡ L.first) }
+fn waits<L: Ledger, W: Wait + Clock>(rt: &W, alloc: Global, blank: Blank) -> Option<bool>
+    requires name { blank.name ≡ L.name }
+    requires parts { blank.parts ≡ L.parts }
+    requires all { blank.parts ≡ 65536 }
 {
-    let shared: Shared<L, E> = share(named)?;
+    let shared: Shared<L> = share(started_core(alloc), blank)?;
     let waits = waits_behind(rt, alloc, &shared);
     drop(shared);
     waits
@@ -125,6 +119,6 @@ fn waits<L: Naming, E: Entry, W: Wait + Clock>(rt: &W, alloc: Global, named: Opt
 
 #[test]
 fn a_receipt_that_is_refused_waits_in_the_committer(rt: HostRuntime) {
-    let waits = waits::<Brand, Change, _>(&rt, rt.alloc(), named_core(rt.alloc(), started_core(rt.alloc())));
+    let waits = waits::<Brand, _>(&rt, rt.alloc(), Blank::new(65_536));
     expect(&rt, waits, Some(true));
 }

@@ -1,12 +1,14 @@
 //! What several tests use: frames, a core, a flusher, and steps on a shared core.
-ghost use Rattle.std.specs.Prelude.{◌≡◌, IfSome};
-ghost use Rattle.apd_desk.specs.Naming.{AreNames};
+ghost use Rattle.std.specs.Prelude.{◌≡◌};
 
 use apd_base::{Addr, Bssid, Moment};
 use apd_conf::{AddressList, Conf, Confs, InterfaceName};
 use apd_core::{Accepted, Core, Input};
 use apd_ctrl::Query;
-use apd_desk::{Clock, Gate, NoGate, Port, Names, Seat, Shared, control_worker, flush_worker, radio_worker, tick_worker, Entry, Naming};
+use apd_desk::{
+    Clock, Gate, NoGate, Port, Seat, Shared, control_worker, flush_worker, radio_worker,
+    tick_worker,
+};
 use apd_disk::{Disk, MemDisk};
 use apd_flusher::Flusher;
 use apd_radio::Radio;
@@ -16,6 +18,7 @@ use apd_table::Table;
 use std::alloc::Global;
 use std::net::Net;
 use std::sync::Wait;
+use std::sync::ledger::{Blank, Ledger};
 use std::thread::Threads;
 use std::time;
 
@@ -223,54 +226,37 @@ pub(crate) fn memory_flusher(alloc: Global) -> Option<Flusher<MemDisk>> {
     flusher(alloc, blank_disk(alloc)?)
 }
 
-/// A core to be shared, and what it is named by.
-pub(crate) struct Named<E> {
-    pub(crate) core: Core,
-    pub(crate) names: Names<E>,
-}
-
-/// A core, where there is one, with what it is named by alone.
-pub(crate) fn named_core<E: Entry>(alloc: Global, core: Option<Core>) -> Option<Named<E>> {
-    let core = core?;
-    match Names::new(alloc) {
-        Ok(names) => Some(Named { core, names }),
-        Err(_) => {
-            drop(core);
-            None
-        }
-    }
-}
-
 /// A shared core, where there is a core.
-pub(crate) fn share<L: Naming, E: Entry>(named: Option<Named<E>>) -> Option<Shared<L, E>>
-    requires names { IfSome named (λ named. AreNames L.seats L.table L.commits named.names) }
-    requires first { IfSome named (λ named. named.core ≡ L.first) }
+pub(crate) fn share<L: Ledger>(core: Option<Core>, blank: Blank) -> Option<Shared<L>>
+    requires name { blank.name ≡ L.name }
+    requires parts { blank.parts ≡ L.parts }
+    requires all { blank.parts ≡ 65536 }
 {
-    let Named { core, names } = named?;
-    Some(Shared::new(core, names))
+    Some(Shared::new(core?, blank))
 }
 
 /// A new seat, of which nothing is said.
-pub(crate) fn new_seat<L: Naming, E: Entry, W: Wait>(rt: &W, shared: &Shared<L, E>) -> Option<Seat<L, E>> {
+pub(crate) fn new_seat<L: Ledger, W: Wait>(rt: &W, shared: &Shared<L>) -> Option<Seat<L>> {
     shared.seat(rt)
 }
 
 /// Tells all to stop, and says nothing of the shared core then.
-pub(crate) fn stop<L: Naming, E: Entry, W: Wait>(rt: &W, shared: &Shared<L, E>) {
+pub(crate) fn stop<L: Ledger, W: Wait>(rt: &W, shared: &Shared<L>) {
     shared.stop(rt);
 }
 
 /// Closes a shared core with all its seats. The core, and how many entries there were.
-pub(crate) fn close<L: Naming, E: Entry>(shared: Shared<L, E>, seats: Vec<Seat<L, E>>) -> Option<(Core, u64)>
+pub(crate) fn close<L: Ledger>(shared: Shared<L>, seats: Vec<Seat<L>>) -> Option<(Core, u64)>
+    requires { L.parts ≡ 65536 }
 {
     shared.close(seats).ok()
 }
 
 /// Whether a request at a moment becomes an entry by a seat.
-pub(crate) fn submits_at<L: Naming, E: Entry, W: Wait>(
+pub(crate) fn submits_at<L: Ledger, W: Wait>(
     rt: &W,
-    shared: &Shared<L, E>,
-    seat: &mut Seat<L, E>,
+    shared: &Shared<L>,
+    seat: &mut Seat<L>,
     input: Input<'_>,
     moment: Moment,
 ) -> bool {
@@ -281,20 +267,20 @@ pub(crate) fn submits_at<L: Naming, E: Entry, W: Wait>(
 }
 
 /// Whether a frame becomes an entry by a seat.
-pub(crate) fn submits<L: Naming, E: Entry, W: Wait>(
+pub(crate) fn submits<L: Ledger, W: Wait>(
     rt: &W,
-    shared: &Shared<L, E>,
-    seat: &mut Seat<L, E>,
+    shared: &Shared<L>,
+    seat: &mut Seat<L>,
     frame: &[u8],
 ) -> bool {
     submits_at(rt, shared, seat, Input::Received(WLAN0, frame), Moment(0))
 }
 
 /// Whether that station is there, as a seat is told.
-pub(crate) fn finds_station<L: Naming, E: Entry, W: Wait>(
+pub(crate) fn finds_station<L: Ledger, W: Wait>(
     rt: &W,
-    shared: &Shared<L, E>,
-    seat: &mut Seat<L, E>,
+    shared: &Shared<L>,
+    seat: &mut Seat<L>,
 ) -> bool {
     match shared.ask(rt, seat, Query::First(WLAN0)) {
         Ok(answer) => answer.text() == FIRST,
@@ -302,42 +288,40 @@ pub(crate) fn finds_station<L: Naming, E: Entry, W: Wait>(
     }
 }
 
-/// Commits until a stop by the one right to commit, and says nothing of the flusher then.
-pub(crate) fn commit<L: Naming, E: Entry, W: Wait + time::Clock, D: Disk + Drop, G: Gate>(
+/// Commits until a stop, and says nothing of the flusher then.
+pub(crate) fn commit<L: Ledger, W: Wait + time::Clock, D: Disk + Drop, G: Gate>(
     rt: &W,
-    shared: &Shared<L, E>,
+    shared: &Shared<L>,
     flusher: Flusher<D>,
     gate: &G,
 ) {
-    if let Some(right) = shared.commit_right(rt) {
-        drop(flush_worker(rt, shared, right, flusher, gate));
-    }
+    drop(flush_worker(rt, shared, flusher, gate));
 }
 
 /// Serves a radio until a stop, and says nothing of its slot then but what it is.
-pub(crate) fn serve_radio<L: Naming, E: Entry, W: Wait + time::Clock + Net, R: Radio, C: Clock, G: Gate>(
+pub(crate) fn serve_radio<L: Ledger, W: Wait + time::Clock + Net, R: Radio, C: Clock, G: Gate>(
     rt: &W,
     alloc: Global,
-    shared: &Shared<L, E>,
-    seat: Seat<L, E>,
+    shared: &Shared<L>,
+    seat: Seat<L>,
     slot: Slot<R>,
     clock: &C,
     spares: Vec<R>,
     gate: &G,
-) -> (Seat<L, E>, Slot<R>) {
+) -> (Seat<L>, Slot<R>) {
     radio_worker(rt, alloc, shared, seat, slot, clock, spares, gate)
 }
 
 /// Serves a radio that has no spare until a stop. Gives the seat back.
-pub(crate) fn serve_alone<L: Naming, E: Entry, W: Wait + time::Clock + Net, R: Radio, C: Clock, G: Gate>(
+pub(crate) fn serve_alone<L: Ledger, W: Wait + time::Clock + Net, R: Radio, C: Clock, G: Gate>(
     rt: &W,
     alloc: Global,
-    shared: &Shared<L, E>,
-    seat: Seat<L, E>,
+    shared: &Shared<L>,
+    seat: Seat<L>,
     radio: R,
     clock: &C,
     gate: &G,
-) -> Seat<L, E> {
+) -> Seat<L> {
     let slot = Slot::new(alloc, radio, WLAN0);
     let (seat, slot) = serve_radio(rt, alloc, shared, seat, slot, clock, Vec::new(alloc), gate);
     drop(slot);
@@ -345,31 +329,31 @@ pub(crate) fn serve_alone<L: Naming, E: Entry, W: Wait + time::Clock + Net, R: R
 }
 
 /// Serves a control port until a stop, and says nothing of its replies then. Gives both back.
-pub(crate) fn serve_port<L: Naming, E: Entry, W: Wait + time::Clock + Net, P: Port, G: Gate>(
+pub(crate) fn serve_port<L: Ledger, W: Wait + time::Clock + Net, P: Port, G: Gate>(
     rt: &W,
     alloc: Global,
-    shared: &Shared<L, E>,
-    seat: Seat<L, E>,
+    shared: &Shared<L>,
+    seat: Seat<L>,
     port: P,
     gate: &G,
-) -> (Seat<L, E>, P) {
+) -> (Seat<L>, P) {
     control_worker(rt, alloc, shared, seat, port, &Still, gate)
 }
 
 /// Submits no tick until a stop, since its clock stands still. Gives its seat.
-pub(crate) fn serve_ticks<L: Naming, E: Entry, W: Wait + time::Clock>(
+pub(crate) fn serve_ticks<L: Ledger, W: Wait + time::Clock>(
     rt: &W,
-    shared: &Shared<L, E>,
-) -> Option<Seat<L, E>> {
+    shared: &Shared<L>,
+) -> Option<Seat<L>> {
     let seat = new_seat(rt, shared)?;
     Some(tick_worker(rt, shared, seat, &Still, &NoGate))
 }
 
 /// Commits into a new store in memory until a stop. Whether there was a flusher.
-pub(crate) fn commit_in_memory<L: Naming, E: Entry, W: Wait + time::Clock, G: Gate>(
+pub(crate) fn commit_in_memory<L: Ledger, W: Wait + time::Clock, G: Gate>(
     rt: &W,
     alloc: Global,
-    shared: &Shared<L, E>,
+    shared: &Shared<L>,
     gate: &G,
 ) -> bool {
     match memory_flusher(alloc) {
@@ -382,10 +366,10 @@ pub(crate) fn commit_in_memory<L: Naming, E: Entry, W: Wait + time::Clock, G: Ga
 }
 
 /// Tells all to stop, and commits what is not settled. Whether there was a flusher.
-pub(crate) fn commit_all<L: Naming, E: Entry, W: Wait + time::Clock>(
+pub(crate) fn commit_all<L: Ledger, W: Wait + time::Clock>(
     rt: &W,
     alloc: Global,
-    shared: &Shared<L, E>,
+    shared: &Shared<L>,
 ) -> bool {
     stop(rt, shared);
     commit_in_memory(rt, alloc, shared, &NoGate)

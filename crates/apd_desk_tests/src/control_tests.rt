@@ -1,25 +1,28 @@
 // What the worker of the control port replies to what is refused.
-ghost use Rattle.std.specs.Prelude.{◌≡◌, IfSome};
-ghost use Rattle.apd_desk.specs.Naming.{AreNames};
+ghost use Rattle.std.specs.Prelude.{◌≡◌};
 
-use crate::common::{WLAN0, WLAN1, authentication, core_of_two_radios, enters, new_core, new_seat, settle, share, started_core, Named, named_core};
+use crate::common::{
+    WLAN0, WLAN1, authentication, core_of_two_radios, enters, new_core, new_seat, settle, share,
+    started_core,
+};
 use crate::expect::expect;
 use crate::operator::{are, replies_to};
 use apd_core::{Core, Input};
-use apd_desk::{Shared, Entry, Naming, Change};
+use apd_desk::Shared;
 use std::alloc::Global;
 use std::marker::Brand;
 use std::net::Net;
 use std::sync::Wait;
+use std::sync::ledger::{Blank, Ledger};
 use std::time::Clock;
 
 const ORDER: &[u8] = b"DEAUTHENTICATE 02:00:00:00:00:aa";
 
 // Gives the commands one after another, at a new seat. Whether these are the replies.
-fn serve<'a, L: Naming, E: Entry, W: Wait + Clock + Net>(
+fn serve<'a, L: Ledger, W: Wait + Clock + Net>(
     rt: &'a W,
     alloc: Global,
-    shared: &'a Shared<L, E>,
+    shared: &'a Shared<L>,
     commands: &'a [&'a [u8]],
     texts: &[&[u8]],
 ) -> Option<bool> {
@@ -31,17 +34,19 @@ fn serve<'a, L: Naming, E: Entry, W: Wait + Clock + Net>(
 }
 
 // Whether these are the replies to these commands on a core.
-fn replies<L: Naming, E: Entry, W: Wait + Clock + Net>(
+fn replies<L: Ledger, W: Wait + Clock + Net>(
     rt: &W,
     alloc: Global,
-    named: Option<Named<E>>,
+    core: Option<Core>,
+    blank: Blank,
     commands: &[&'static [u8]],
     texts: &[&[u8]],
 ) -> Option<bool>
-    requires names { IfSome named (λ named. AreNames L.seats L.table L.commits named.names) }
-    requires first { IfSome named (λ named. named.core ≡ L.first) }
+    requires name { blank.name ≡ L.name }
+    requires parts { blank.parts ≡ L.parts }
+    requires all { blank.parts ≡ 65536 }
 {
-    let shared: Shared<L, E> = share(named)?;
+    let shared: Shared<L> = share(core, blank)?;
     let replied = serve(rt, alloc, &shared, commands, texts);
     drop(shared);
     replied
@@ -91,8 +96,8 @@ const REPLIES: &[&[u8]] = &[
 #[test]
 fn each_refusal_is_replied_to(rt: HostRuntime) {
     let alloc = rt.alloc();
-    let named = named_core(alloc, new_core(alloc));
-    let replied = replies::<Brand, Change, _>(&rt, alloc, named, COMMANDS, REPLIES);
+    let (core, blank) = (new_core(alloc), Blank::new(65_536));
+    let replied = replies::<Brand, _>(&rt, alloc, core, blank, COMMANDS, REPLIES);
     expect(&rt, replied, Some(true));
 }
 
@@ -103,16 +108,16 @@ const FAILS: &[&[u8]] = &[b"FAIL\n", b"PONG\n"];
 #[test]
 fn an_order_fails_on_a_core_that_has_failed(rt: HostRuntime) {
     let alloc = rt.alloc();
-    let named = named_core(alloc, failed_core(alloc));
-    let replied = replies::<Brand, Change, _>(&rt, alloc, named, ORDERS, FAILS);
+    let (core, blank) = (failed_core(alloc), Blank::new(65_536));
+    let replied = replies::<Brand, _>(&rt, alloc, core, blank, ORDERS, FAILS);
     expect(&rt, replied, Some(true));
 }
 
 #[test]
 fn an_order_fails_on_a_full_core(rt: HostRuntime) {
     let alloc = rt.alloc();
-    let named = named_core(alloc, full_core(alloc));
-    let replied = replies::<Brand, Change, _>(&rt, alloc, named, ORDERS, FAILS);
+    let (core, blank) = (full_core(alloc), Blank::new(65_536));
+    let replied = replies::<Brand, _>(&rt, alloc, core, blank, ORDERS, FAILS);
     expect(&rt, replied, Some(true));
 }
 
@@ -144,11 +149,12 @@ num_sta[0]=0
 const STATES: &[&[u8]] = &[DOWN, UP, DOWN];
 
 // Whether each of two radios shows its own state, the first of which is down.
-fn shows_both<L: Naming, E: Entry, W: Wait + Clock + Net>(rt: &W, alloc: Global, named: Option<Named<E>>) -> Option<bool>
-    requires names { IfSome named (λ named. AreNames L.seats L.table L.commits named.names) }
-    requires first { IfSome named (λ named. named.core ≡ L.first) }
+fn shows_both<L: Ledger, W: Wait + Clock + Net>(rt: &W, alloc: Global, blank: Blank) -> Option<bool>
+    requires name { blank.name ≡ L.name }
+    requires parts { blank.parts ≡ L.parts }
+    requires all { blank.parts ≡ 65536 }
 {
-    let shared: Shared<L, E> = share(named)?;
+    let shared: Shared<L> = share(two_radios(alloc), blank)?;
     shared.note(rt, WLAN0, false);
     shared.note(rt, WLAN1, true);
     let shown = serve(rt, alloc, &shared, ASKED, STATES);
@@ -158,6 +164,6 @@ fn shows_both<L: Naming, E: Entry, W: Wait + Clock + Net>(rt: &W, alloc: Global,
 
 #[test]
 fn a_command_is_of_the_interface_that_it_names(rt: HostRuntime) {
-    let shown = shows_both::<Brand, Change, _>(&rt, rt.alloc(), named_core(rt.alloc(), two_radios(rt.alloc())));
+    let shown = shows_both::<Brand, _>(&rt, rt.alloc(), Blank::new(65_536));
     expect(&rt, shown, Some(true));
 }

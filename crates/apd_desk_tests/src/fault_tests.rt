@@ -1,12 +1,14 @@
 // A device that fails: the worker that commits ends by itself, requests are stopped, and every seat comes back.
-ghost use Rattle.std.specs.Prelude.{◌≡◌, IfSome};
-ghost use Rattle.apd_desk.specs.Naming.{AreNames};
+ghost use Rattle.std.specs.Prelude.{◌≡◌};
 
-use crate::common::{Host, Still, WLAN0, authentication, blank_disk, close, commit, flusher, new_seat, serve_alone, serve_port, serve_ticks, share, started_core, stop, Named, named_core};
+use crate::common::{
+    Host, Still, WLAN0, authentication, blank_disk, close, commit, flusher, new_seat, serve_alone,
+    serve_port, serve_ticks, share, started_core, stop,
+};
 use crate::expect::expect;
 use apd_base::Moment;
 use apd_core::{Accepted, Input};
-use apd_desk::{Gate, NoGate, Place, Port, PortFault, Seat, Shared, flush_worker, Entry, Naming, Change};
+use apd_desk::{Gate, NoGate, Place, Port, PortFault, Seat, Shared, flush_worker};
 use apd_disk::{Disk, FuseDisk, MemDisk};
 use apd_flusher::{Flusher, Phase};
 use apd_radio::Sim;
@@ -15,6 +17,7 @@ use std::marker::Brand;
 use std::net::Net;
 use std::sync::Wait;
 use std::sync::atomic::{AtomicU64, Ordering};
+use std::sync::ledger::{Blank, Ledger};
 use std::thread::join;
 use std::time::Clock;
 
@@ -35,61 +38,56 @@ impl Port for Silent {
     }
 }
 
-fn finds_stopped<L: Naming, E: Entry, W: Wait>(rt: &W, shared: &Shared<L, E>, seat: &mut Seat<L, E>) -> bool {
+fn finds_stopped<L: Ledger, W: Wait>(rt: &W, shared: &Shared<L>, seat: &mut Seat<L>) -> bool {
     let frame = authentication(0);
     let answer = shared.submit(rt, seat, Input::Received(WLAN0, &frame), Moment(0));
     matches!(answer, Ok(Accepted::Stopped))
 }
 
 // Commits until the device fails. Whether it has failed then.
-fn commit_until_failed<L: Naming, E: Entry, W: Wait + Clock, D: Disk + Drop>(
+fn commit_until_failed<L: Ledger, W: Wait + Clock, D: Disk + Drop>(
     rt: &W,
-    shared: &Shared<L, E>,
+    shared: &Shared<L>,
     flusher: Flusher<D>,
 ) -> bool {
-    match shared.commit_right(rt) {
-        Some(right) => {
-            let flusher = flush_worker(rt, shared, right, flusher, &NoGate);
-            let has_failed = flusher.phase() == Phase::Failed;
-            drop(flusher);
-            has_failed
-        }
-        None => false,
-    }
+    let flusher = flush_worker(rt, shared, flusher, &NoGate);
+    let has_failed = flusher.phase() == Phase::Failed;
+    drop(flusher);
+    has_failed
 }
 
 // Commits until the device fails, asks for one entry more, and tells all to stop. Gives the seat where that entry was
 // refused.
-fn commit_to_the_fault<L: Naming, E: Entry, W: Wait + Clock, D: Disk + Drop>(
+fn commit_to_the_fault<L: Ledger, W: Wait + Clock, D: Disk + Drop>(
     rt: &W,
-    shared: &Shared<L, E>,
+    shared: &Shared<L>,
     flusher: Flusher<D>,
-) -> Option<Seat<L, E>> {
+) -> Option<Seat<L>> {
     let has_failed = commit_until_failed(rt, shared, flusher);
     let seat = stopped_seat(rt, shared);
     stop(rt, shared);
     has_failed.then_some(seat?)
 }
 
-fn stopped_seat<L: Naming, E: Entry, W: Wait>(rt: &W, shared: &Shared<L, E>) -> Option<Seat<L, E>> {
+fn stopped_seat<L: Ledger, W: Wait>(rt: &W, shared: &Shared<L>) -> Option<Seat<L>> {
     let mut seat = new_seat(rt, shared)?;
     finds_stopped(rt, shared, &mut seat).then_some(seat)
 }
 
-fn serve_sim<L: Naming, E: Entry, W: Wait + Clock + Net>(
+fn serve_sim<L: Ledger, W: Wait + Clock + Net>(
     rt: &W,
     alloc: Global,
-    shared: &Shared<L, E>,
-) -> Option<Seat<L, E>> {
+    shared: &Shared<L>,
+) -> Option<Seat<L>> {
     let seat = new_seat(rt, shared)?;
     Some(serve_alone(rt, alloc, shared, seat, Sim::new(alloc), &Still, &NoGate))
 }
 
-fn serve_commands<L: Naming, E: Entry, W: Wait + Clock + Net>(
+fn serve_commands<L: Ledger, W: Wait + Clock + Net>(
     rt: &W,
     alloc: Global,
-    shared: &Shared<L, E>,
-) -> Option<Seat<L, E>> {
+    shared: &Shared<L>,
+) -> Option<Seat<L>> {
     let seat = new_seat(rt, shared)?;
     let (seat, port) = serve_port(rt, alloc, shared, seat, Silent, &NoGate);
     drop(port);
@@ -102,11 +100,11 @@ fn list_of_both<X: Drop>(one: Option<Vec<X>>, other: Option<X>) -> Option<Vec<X>
     all.push(other).is_ok().then_some(all)
 }
 
-fn serve_both<L: Naming + Send + Sync, E: Entry + Send + Sync, W: Host>(
+fn serve_both<L: Ledger + Send + Sync, W: Host>(
     rt: &W,
     alloc: Global,
-    shared: &Shared<L, E>,
-) -> Option<Vec<Seat<L, E>>> {
+    shared: &Shared<L>,
+) -> Option<Vec<Seat<L>>> {
     let (one, other) = join(
         rt,
         move || serve_commands(rt, alloc, shared),
@@ -115,11 +113,11 @@ fn serve_both<L: Naming + Send + Sync, E: Entry + Send + Sync, W: Host>(
     list_of_both(list_of_both(Some(Vec::new(alloc)), one), other)
 }
 
-fn serve_all<L: Naming + Send + Sync, E: Entry + Send + Sync, W: Host>(
+fn serve_all<L: Ledger + Send + Sync, W: Host>(
     rt: &W,
     alloc: Global,
-    shared: &Shared<L, E>,
-) -> Option<Vec<Seat<L, E>>> {
+    shared: &Shared<L>,
+) -> Option<Vec<Seat<L>>> {
     let (one, others) = join(
         rt,
         move || serve_sim(rt, alloc, shared),
@@ -129,12 +127,12 @@ fn serve_all<L: Naming + Send + Sync, E: Entry + Send + Sync, W: Host>(
 }
 
 // The seats of all workers, and of one that was refused, once the device has failed.
-fn work_to_the_fault<L: Naming + Send + Sync, E: Entry + Send + Sync, W: Host>(
+fn work_to_the_fault<L: Ledger + Send + Sync, W: Host>(
     rt: &W,
     alloc: Global,
-    shared: &Shared<L, E>,
+    shared: &Shared<L>,
     flusher: Flusher<FuseDisk<MemDisk>>,
-) -> Option<Vec<Seat<L, E>>> {
+) -> Option<Vec<Seat<L>>> {
     let (one, others) = join(
         rt,
         move || commit_to_the_fault(rt, shared, flusher),
@@ -144,34 +142,36 @@ fn work_to_the_fault<L: Naming + Send + Sync, E: Entry + Send + Sync, W: Host>(
 }
 
 // The same of a device that fails after as many calls.
-fn fail<L: Naming + Send + Sync, E: Entry + Send + Sync, W: Host>(
+fn fail<L: Ledger + Send + Sync, W: Host>(
     rt: &W,
     alloc: Global,
-    shared: &Shared<L, E>,
+    shared: &Shared<L>,
     calls: u64,
-) -> Option<Vec<Seat<L, E>>> {
+) -> Option<Vec<Seat<L>>> {
     work_to_the_fault(rt, alloc, shared, failing_flusher(alloc, calls)?)
 }
 
 // How many seats come back, and how many entries there were, where the device fails after as many calls.
-fn fails<L: Naming + Send + Sync, E: Entry + Send + Sync, W: Host>(
+fn fails<L: Ledger + Send + Sync, W: Host>(
     rt: &W,
     alloc: Global,
     calls: u64,
-    named: Option<Named<E>>,
+    blank: Blank,
 ) -> Option<(usize, u64)>
-    requires names { IfSome named (λ named. AreNames L.seats L.table L.commits named.names) }
-    requires first { IfSome named (λ named. named.core ≡ L.first) }
+    requires name { blank.name ≡ L.name }
+    requires parts { blank.parts ≡ L.parts }
+    requires all { blank.parts ≡ 65536 }
 {
-    let shared: Shared<L, E> = share(named)?;
+    let shared: Shared<L> = share(started_core(alloc), blank)?;
     let seats = fail(rt, alloc, &shared, calls);
     close_and_count(shared, seats)
 }
 
-fn close_and_count<L: Naming, E: Entry>(
-    shared: Shared<L, E>,
-    seats: Option<Vec<Seat<L, E>>>,
+fn close_and_count<L: Ledger>(
+    shared: Shared<L>,
+    seats: Option<Vec<Seat<L>>>,
 ) -> Option<(usize, u64)>
+    requires { L.parts ≡ 65536 }
 {
     let (shared, seats) = Some(shared).zip(seats)?;
     let back = seats.len();
@@ -188,21 +188,21 @@ fn failing_flusher(alloc: Global, calls: u64) -> Option<Flusher<FuseDisk<MemDisk
 #[test]
 fn each_worker_gives_its_seat_back_where_a_device_fails(rt: HostRuntime) {
     for calls in 0..4 {
-        let closed = fails::<Brand, Change, _>(&rt, rt.alloc(), calls, named_core(rt.alloc(), started_core(rt.alloc())));
+        let closed = fails::<Brand, _>(&rt, rt.alloc(), calls, Blank::new(65_536));
         expect(&rt, (calls, closed), (calls, Some((4, 0))));
     }
 }
 
 /// A gate at which an entry is asked for behind each turn of the flusher.
 #[derive(Drop)]
-struct Asking<'a, L: Naming, E: Entry, W> {
+struct Asking<'a, L: Ledger, W> {
     rt: &'a W,
-    shared: &'a Shared<L, E>,
+    shared: &'a Shared<L>,
     // How often it was told as stopped.
     stopped: AtomicU64,
 }
 
-impl<L: Naming, E: Entry, W: Wait> Asking<'_, L, E, W> {
+impl<L: Ledger, W: Wait> Asking<'_, L, W> {
     fn ask(&self) {
         if let Some(seat) = stopped_seat(self.rt, self.shared) {
             drop(seat);
@@ -211,7 +211,7 @@ impl<L: Naming, E: Entry, W: Wait> Asking<'_, L, E, W> {
     }
 }
 
-impl<L: Naming, E: Entry, W: Wait> Gate for Asking<'_, L, E, W> {
+impl<L: Ledger, W: Wait> Gate for Asking<'_, L, W> {
     fn pass(&self, at: Place) {
         if at == Place::AfterCall {
             self.ask();
@@ -220,10 +220,10 @@ impl<L: Naming, E: Entry, W: Wait> Gate for Asking<'_, L, E, W> {
 }
 
 // How many requests are stopped at the gate behind the call at which a device fails.
-fn stops_at_the_gate<L: Naming, E: Entry, W: Wait + Clock>(
+fn stops_at_the_gate<L: Ledger, W: Wait + Clock>(
     rt: &W,
     alloc: Global,
-    shared: &Shared<L, E>,
+    shared: &Shared<L>,
 ) -> Option<u64> {
     let gate = Asking {
         rt,
@@ -235,11 +235,12 @@ fn stops_at_the_gate<L: Naming, E: Entry, W: Wait + Clock>(
 }
 
 // The same, of a new shared core.
-fn stops<L: Naming, E: Entry, W: Wait + Clock>(rt: &W, alloc: Global, named: Option<Named<E>>) -> Option<u64>
-    requires names { IfSome named (λ named. AreNames L.seats L.table L.commits named.names) }
-    requires first { IfSome named (λ named. named.core ≡ L.first) }
+fn stops<L: Ledger, W: Wait + Clock>(rt: &W, alloc: Global, blank: Blank) -> Option<u64>
+    requires name { blank.name ≡ L.name }
+    requires parts { blank.parts ≡ L.parts }
+    requires all { blank.parts ≡ 65536 }
 {
-    let shared: Shared<L, E> = share(named)?;
+    let shared: Shared<L> = share(started_core(alloc), blank)?;
     let stopped = stops_at_the_gate(rt, alloc, &shared);
     drop(shared);
     stopped
@@ -247,6 +248,6 @@ fn stops<L: Naming, E: Entry, W: Wait + Clock>(rt: &W, alloc: Global, named: Opt
 
 #[test]
 fn nothing_is_accepted_behind_the_fault(rt: HostRuntime) {
-    let stopped = stops::<Brand, Change, _>(&rt, rt.alloc(), named_core(rt.alloc(), started_core(rt.alloc())));
+    let stopped = stops::<Brand, _>(&rt, rt.alloc(), Blank::new(65_536));
     expect(&rt, stopped, Some(1));
 }

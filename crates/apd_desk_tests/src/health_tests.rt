@@ -1,12 +1,11 @@
 // What STATUS says of an interface that can admit nobody any more, though its radio is up.
-ghost use Rattle.std.specs.Prelude.{◌≡◌, IfSome};
-ghost use Rattle.apd_desk.specs.Naming.{AreNames};
+ghost use Rattle.std.specs.Prelude.{◌≡◌};
 
-use crate::common::{LENGTH, WLAN0, blank_disk, commit, flusher, new_seat, share, started_core, Named, named_core};
+use crate::common::{LENGTH, WLAN0, blank_disk, commit, flusher, new_seat, share, started_core};
 use crate::expect::expect;
 use crate::operator::{begin, replies_to};
 use apd_core::Core;
-use apd_desk::{NoGate, Shared, Entry, Naming, Change};
+use apd_desk::{NoGate, Shared};
 use apd_disk::{Disk, FuseDisk, MemDisk};
 use apd_flusher::Flusher;
 use apd_store::recover;
@@ -14,6 +13,7 @@ use std::alloc::{AllocError, Global};
 use std::marker::Brand;
 use std::net::Net;
 use std::sync::Wait;
+use std::sync::ledger::{Blank, Ledger};
 use std::time::Clock;
 
 const ASKED: &[&[u8]] = &[b"STATUS"];
@@ -23,10 +23,10 @@ const UP: &[&[u8]] = &[b"state=ENABLED\n"];
 const DOWN: &[&[u8]] = &[b"state=DISABLED\n"];
 
 // Whether the reply to STATUS begins so.
-fn tells<L: Naming, E: Entry, W: Wait + Clock + Net>(
+fn tells<L: Ledger, W: Wait + Clock + Net>(
     rt: &W,
     alloc: Global,
-    shared: &Shared<L, E>,
+    shared: &Shared<L>,
     text: &[&[u8]],
 ) -> Option<bool> {
     let seat = new_seat(rt, shared)?;
@@ -37,17 +37,19 @@ fn tells<L: Naming, E: Entry, W: Wait + Clock + Net>(
 }
 
 // The same of a core whose radio is noted to be up, once its commits have ended by themselves.
-fn tells_behind<L: Naming, E: Entry, W: Wait + Clock + Net, D: Disk + Drop>(
+fn tells_behind<L: Ledger, W: Wait + Clock + Net, D: Disk + Drop>(
     rt: &W,
     alloc: Global,
-    named: Option<Named<E>>,
+    blank: Blank,
+    core: Option<Core>,
     flusher: Option<Flusher<D>>,
     text: &[&[u8]],
 ) -> Option<bool>
-    requires names { IfSome named (λ named. AreNames L.seats L.table L.commits named.names) }
-    requires first { IfSome named (λ named. named.core ≡ L.first) }
+    requires name { blank.name ≡ L.name }
+    requires parts { blank.parts ≡ L.parts }
+    requires all { blank.parts ≡ 65536 }
 {
-    let shared: Option<Shared<L, E>> = share(named);
+    let shared: Option<Shared<L>> = share(core, blank);
     let (shared, flusher) = shared.zip(flusher)?;
     shared.note(rt, WLAN0, true);
     commit(rt, &shared, flusher, &NoGate);
@@ -57,16 +59,18 @@ fn tells_behind<L: Naming, E: Entry, W: Wait + Clock + Net, D: Disk + Drop>(
 }
 
 // The same of a core for which nothing is committed.
-fn tells_at_once<L: Naming, E: Entry, W: Wait + Clock + Net>(
+fn tells_at_once<L: Ledger, W: Wait + Clock + Net>(
     rt: &W,
     alloc: Global,
-    named: Option<Named<E>>,
+    blank: Blank,
+    core: Option<Core>,
     text: &[&[u8]],
 ) -> Option<bool>
-    requires names { IfSome named (λ named. AreNames L.seats L.table L.commits named.names) }
-    requires first { IfSome named (λ named. named.core ≡ L.first) }
+    requires name { blank.name ≡ L.name }
+    requires parts { blank.parts ≡ L.parts }
+    requires all { blank.parts ≡ 65536 }
 {
-    let shared: Shared<L, E> = share(named)?;
+    let shared: Shared<L> = share(core, blank)?;
     shared.note(rt, WLAN0, true);
     let told = tells(rt, alloc, &shared, text);
     drop(shared);
@@ -76,8 +80,8 @@ fn tells_at_once<L: Naming, E: Entry, W: Wait + Clock + Net>(
 #[test]
 fn an_interface_that_admits_stations_is_up(rt: HostRuntime) {
     let alloc = rt.alloc();
-    let named = named_core(alloc, started_core(alloc));
-    let told = tells_at_once::<Brand, Change, _>(&rt, alloc, named, UP);
+    let (core, blank) = (started_core(alloc), Blank::new(65_536));
+    let told = tells_at_once::<Brand, _>(&rt, alloc, blank, core, UP);
     expect(&rt, told, Some(true));
 }
 
@@ -94,9 +98,9 @@ fn failing_flusher(alloc: Global, calls: u64) -> Option<Flusher<FuseDisk<MemDisk
 fn an_interface_is_down_once_the_device_has_failed(rt: HostRuntime) {
     let alloc = rt.alloc();
     for calls in 0..4 {
-        let failing = failing_flusher(alloc, calls);
-        let named = named_core(alloc, started_core(alloc));
-        let told = tells_behind::<Brand, Change, _, _>(&rt, alloc, named, failing, DOWN);
+        let (core, failing) = (started_core(alloc), failing_flusher(alloc, calls));
+        let blank = Blank::new(65_536);
+        let told = tells_behind::<Brand, _, _>(&rt, alloc, blank, core, failing, DOWN);
         expect(&rt, (calls, told), (calls, Some(true)));
     }
 }
@@ -133,8 +137,8 @@ fn worn_flusher(alloc: Global) -> Option<Flusher<MemDisk>> {
 #[test]
 fn an_interface_is_down_once_the_store_is_worn_out(rt: HostRuntime) {
     let alloc = rt.alloc();
-    let worn = worn_flusher(alloc);
-    let named = named_core(alloc, started_core(alloc));
-    let told = tells_behind::<Brand, Change, _, _>(&rt, alloc, named, worn, DOWN);
+    let (core, worn) = (started_core(alloc), worn_flusher(alloc));
+    let blank = Blank::new(65_536);
+    let told = tells_behind::<Brand, _, _>(&rt, alloc, blank, core, worn, DOWN);
     expect(&rt, told, Some(true));
 }

@@ -1,16 +1,16 @@
 // A commit that is refused memory. Where memory is ample nothing is refused; by hand each allocation is refused in turn.
-ghost use Rattle.std.specs.Prelude.{◌≡◌, IfSome};
-ghost use Rattle.apd_desk.specs.Naming.{AreNames};
+ghost use Rattle.std.specs.Prelude.{◌≡◌};
 
-use crate::common::{asked_core, commit, finds_station, memory_flusher, new_seat, share, stop, Named, named_core};
+use crate::common::{asked_core, commit, finds_station, memory_flusher, new_seat, share, stop};
 use crate::expect::expect;
 use apd_core::Core;
-use apd_desk::{NoGate, Seat, Shared, Entry, Naming, Change};
+use apd_desk::{NoGate, Seat, Shared};
 use apd_disk::MemDisk;
 use apd_flusher::Flusher;
 use std::alloc::Global;
 use std::marker::Brand;
 use std::sync::Wait;
+use std::sync::ledger::{Blank, Ledger};
 use std::time::Clock;
 
 // A core at which a station associates, which is not settled.
@@ -28,16 +28,16 @@ fn new_flusher(alloc: Global) -> Option<Flusher<MemDisk>> {
     }
 }
 
-fn finds_station_at_last<L: Naming, E: Entry, W: Wait>(
+fn finds_station_at_last<L: Ledger, W: Wait>(
     rt: &W,
-    shared: &Shared<L, E>,
-    seat: &mut Seat<L, E>,
+    shared: &Shared<L>,
+    seat: &mut Seat<L>,
 ) -> bool {
     finds_station(rt, shared, seat) || finds_station(rt, shared, seat)
 }
 
 // Whether the station is there, as a new seat is told.
-fn tells<L: Naming, E: Entry, W: Wait>(rt: &W, shared: &Shared<L, E>) -> Option<bool> {
+fn tells<L: Ledger, W: Wait>(rt: &W, shared: &Shared<L>) -> Option<bool> {
     let mut seat = new_seat(rt, shared)?;
     let told = finds_station_at_last(rt, shared, &mut seat);
     drop(seat);
@@ -45,17 +45,18 @@ fn tells<L: Naming, E: Entry, W: Wait>(rt: &W, shared: &Shared<L, E>) -> Option<
 }
 
 // Whether the station is there after the commit.
-fn commits<L: Naming, E: Entry, W: Wait + Clock>(rt: &W, alloc: Global, shared: &Shared<L, E>) -> Option<bool> {
+fn commits<L: Ledger, W: Wait + Clock>(rt: &W, alloc: Global, shared: &Shared<L>) -> Option<bool> {
     stop(rt, shared);
     commit(rt, shared, new_flusher(alloc)?, &NoGate);
     tells(rt, shared)
 }
 
-fn commits_shared<L: Naming, E: Entry, W: Wait + Clock>(rt: &W, alloc: Global, named: Option<Named<E>>) -> Option<bool>
-    requires names { IfSome named (λ named. AreNames L.seats L.table L.commits named.names) }
-    requires first { IfSome named (λ named. named.core ≡ L.first) }
+fn commits_shared<L: Ledger, W: Wait + Clock>(rt: &W, alloc: Global, blank: Blank) -> Option<bool>
+    requires name { blank.name ≡ L.name }
+    requires parts { blank.parts ≡ L.parts }
+    requires all { blank.parts ≡ 65536 }
 {
-    let shared: Shared<L, E> = share(named)?;
+    let shared: Shared<L> = share(unsettled_core(alloc), blank)?;
     let committed = commits(rt, alloc, &shared);
     drop(shared);
     committed
@@ -63,6 +64,6 @@ fn commits_shared<L: Naming, E: Entry, W: Wait + Clock>(rt: &W, alloc: Global, n
 
 #[test]
 fn a_commit_that_is_refused_memory_is_tried_again(rt: HostRuntime) {
-    let committed = commits_shared::<Brand, Change, _>(&rt, rt.alloc(), named_core(rt.alloc(), unsettled_core(rt.alloc())));
+    let committed = commits_shared::<Brand, _>(&rt, rt.alloc(), Blank::new(65_536));
     expect(&rt, committed, Some(true));
 }

@@ -1,10 +1,11 @@
 //! A control port by which a test asks.
 use crate::common::{serve_port, stop};
 use crate::hold::Turnstile;
-use apd_desk::{Gate, NoGate, Port, PortFault, Seat, Shared, Entry, Naming};
+use apd_desk::{Gate, NoGate, Port, PortFault, Seat, Shared};
 use std::alloc::{AllocError, Global};
 use std::net::Net;
 use std::sync::Wait;
+use std::sync::ledger::Ledger;
 use std::time::Clock;
 
 /// How often an operator is polled at most: a test that waits for a reply ends.
@@ -13,10 +14,10 @@ const POLLS: u64 = 20_000;
 /// Gives its commands one after another, from the moment on at which the sync that is held began, and tells all to
 /// stop once each was replied to.
 #[derive(Drop)]
-pub(crate) struct Operator<'a, L: Naming, E: Entry, W: Wait> {
+pub(crate) struct Operator<'a, L: Ledger, W: Wait> {
     rt: &'a W,
     alloc: Global,
-    shared: &'a Shared<L, E>,
+    shared: &'a Shared<L>,
     since: Option<&'a Turnstile>,
     commands: &'a [&'a [u8]],
     given: usize,
@@ -24,14 +25,14 @@ pub(crate) struct Operator<'a, L: Naming, E: Entry, W: Wait> {
     polls: u64,
 }
 
-impl<'a, L: Naming, E: Entry, W: Wait> Operator<'a, L, E, W> {
+impl<'a, L: Ledger, W: Wait> Operator<'a, L, W> {
     pub(crate) fn new(
         rt: &'a W,
         alloc: Global,
-        shared: &'a Shared<L, E>,
+        shared: &'a Shared<L>,
         since: Option<&'a Turnstile>,
         commands: &'a [&'a [u8]],
-    ) -> Operator<'a, L, E, W> {
+    ) -> Operator<'a, L, W> {
         Operator {
             rt,
             alloc,
@@ -69,7 +70,7 @@ impl<'a, L: Naming, E: Entry, W: Wait> Operator<'a, L, E, W> {
     }
 }
 
-impl<L: Naming, E: Entry, W: Wait> Port for Operator<'_, L, E, W> {
+impl<L: Ledger, W: Wait> Port for Operator<'_, L, W> {
     fn poll(&mut self) -> Result<Option<(u64, Vec<u8>)>, PortFault> {
         self.polls = self.polls.saturating_add(1);
         if self.is_done() {
@@ -98,12 +99,12 @@ impl<L: Naming, E: Entry, W: Wait> Port for Operator<'_, L, E, W> {
 }
 
 /// Gives an operator's commands to the worker of the control port. The replies.
-pub(crate) fn serve_operator<L: Naming, E: Entry, W: Wait + Clock + Net, G: Gate>(
+pub(crate) fn serve_operator<L: Ledger, W: Wait + Clock + Net, G: Gate>(
     rt: &W,
     alloc: Global,
-    shared: &Shared<L, E>,
-    seat: Seat<L, E>,
-    operator: Operator<'_, L, E, W>,
+    shared: &Shared<L>,
+    seat: Seat<L>,
+    operator: Operator<'_, L, W>,
     gate: &G,
 ) -> Vec<Vec<u8>> {
     let (seat, operator) = serve_port(rt, alloc, shared, seat, operator, gate);
@@ -112,11 +113,11 @@ pub(crate) fn serve_operator<L: Naming, E: Entry, W: Wait + Clock + Net, G: Gate
 }
 
 /// Gives the commands one after another to the worker of the control port, and tells all to stop. The replies.
-pub(crate) fn replies_to<'a, L: Naming, E: Entry, W: Wait + Clock + Net>(
+pub(crate) fn replies_to<'a, L: Ledger, W: Wait + Clock + Net>(
     rt: &'a W,
     alloc: Global,
-    shared: &'a Shared<L, E>,
-    seat: Seat<L, E>,
+    shared: &'a Shared<L>,
+    seat: Seat<L>,
     commands: &'a [&'a [u8]],
 ) -> Vec<Vec<u8>> {
     let operator = Operator::new(rt, alloc, shared, None, commands);

@@ -1,32 +1,35 @@
 // What the worker of a radio does with what comes and what goes out.
-ghost use Rattle.std.specs.Prelude.{◌≡◌, IfSome};
-ghost use Rattle.apd_desk.specs.Naming.{AreNames};
+ghost use Rattle.std.specs.Prelude.{◌≡◌};
 
-use crate::common::{ASSOCIATION, Still, WLAN0, associated_core, authentication, commit_in_memory, new_seat, serve_alone, settle, share, started_core, submits_at, Named, named_core};
+use crate::common::{
+    ASSOCIATION, Still, WLAN0, associated_core, authentication, commit_in_memory, new_seat,
+    serve_alone, settle, share, started_core, submits_at,
+};
 use crate::expect::expect;
 use crate::habit::Habitual;
 use crate::staged::{At, Log, Short, Staged};
 use apd_base::Moment;
 use apd_core::{Core, Input};
-use apd_desk::{Clock, Gate, NoGate, Seat, Shared, Entry, Naming, Change};
+use apd_desk::{Clock, Gate, NoGate, Seat, Shared};
 use apd_mlme::{Out, Recipient};
 use apd_radio::{Failing, Radio, Recording, Sim};
 use std::alloc::Global;
 use std::marker::Brand;
 use std::net::Net;
 use std::sync::Wait;
+use std::sync::ledger::{Blank, Ledger};
 use std::time;
 
 // Serves a radio that receives these frames, until the look behind them. Gives the seat.
-fn serve<L: Naming, E: Entry, W: Wait + time::Clock + Net, R: Radio, C: Clock, G: Gate>(
+fn serve<L: Ledger, W: Wait + time::Clock + Net, R: Radio, C: Clock, G: Gate>(
     rt: &W,
     alloc: Global,
-    shared: &Shared<L, E>,
+    shared: &Shared<L>,
     inner: R,
     frames: &[&[u8]],
     clock: &C,
     gate: &G,
-) -> Option<Seat<L, E>> {
+) -> Option<Seat<L>> {
     let (seat, inner) = new_seat(rt, shared).zip(Some(inner))?;
     let radio = Habitual::new(inner, Staged::new(rt, alloc, shared, frames));
     Some(serve_alone(rt, alloc, shared, seat, radio, clock, gate))
@@ -34,26 +37,27 @@ fn serve<L: Naming, E: Entry, W: Wait + time::Clock + Net, R: Radio, C: Clock, G
 
 // What a radio is told that meets want of memory so many times, at the first of the outs that wait. All are told to stop
 // before the first of them.
-fn radio_log<L: Naming, E: Entry, W: Wait + time::Clock + Net>(
+fn radio_log<L: Ledger, W: Wait + time::Clock + Net>(
     rt: &W,
     alloc: Global,
-    named: Option<Named<E>>,
+    blank: Blank,
     times: u64,
 ) -> Option<Vec<u8>>
-    requires names { IfSome named (λ named. AreNames L.seats L.table L.commits named.names) }
-    requires first { IfSome named (λ named. named.core ≡ L.first) }
+    requires name { blank.name ≡ L.name }
+    requires parts { blank.parts ≡ L.parts }
+    requires all { blank.parts ≡ 65536 }
 {
-    let shared: Shared<L, E> = share(named)?;
+    let shared: Shared<L> = share(associated_core(alloc), blank)?;
     let mut written = Vec::new(alloc);
     let served = writes_log(rt, alloc, &shared, times, &mut written);
     drop(shared);
     served.then_some(written)
 }
 
-fn writes_log<L: Naming, E: Entry, W: Wait + time::Clock + Net>(
+fn writes_log<L: Ledger, W: Wait + time::Clock + Net>(
     rt: &W,
     alloc: Global,
-    shared: &Shared<L, E>,
+    shared: &Shared<L>,
     times: u64,
     written: &mut Vec<u8>,
 ) -> bool {
@@ -75,40 +79,41 @@ down
 #[test]
 fn no_out_is_lost_at_want_of_memory_or_at_a_stop(rt: HostRuntime) {
     for times in [0, 1, 260].as_slice() {
-        let told = radio_log::<Brand, Change, _>(&rt, rt.alloc(), named_core(rt.alloc(), associated_core(rt.alloc())), *times);
+        let told = radio_log::<Brand, _>(&rt, rt.alloc(), Blank::new(65_536), *times);
         expect(&rt, (*times, told.as_deref()), (*times, Some(all_lines())));
     }
 }
 
 // Whether a tick at this moment lets a station go.
-fn lets_go<L: Naming, E: Entry, W: Wait>(
+fn lets_go<L: Ledger, W: Wait>(
     rt: &W,
-    shared: &Shared<L, E>,
-    seat: &mut Seat<L, E>,
+    shared: &Shared<L>,
+    seat: &mut Seat<L>,
     moment: u64,
 ) -> bool {
     submits_at(rt, shared, seat, Input::Tick, Moment(moment))
 }
 
 // Whether a station that was heard at 200 s is let go at 400 s, and at 500 s.
-fn departures<L: Naming, E: Entry, W: Wait + time::Clock + Net>(
+fn departures<L: Ledger, W: Wait + time::Clock + Net>(
     rt: &W,
     alloc: Global,
-    named: Option<Named<E>>,
+    blank: Blank,
 ) -> Option<[bool; 2]>
-    requires names { IfSome named (λ named. AreNames L.seats L.table L.commits named.names) }
-    requires first { IfSome named (λ named. named.core ≡ L.first) }
+    requires name { blank.name ≡ L.name }
+    requires parts { blank.parts ≡ L.parts }
+    requires all { blank.parts ≡ 65536 }
 {
-    let shared: Shared<L, E> = share(named)?;
+    let shared: Shared<L> = share(started_core(alloc), blank)?;
     let gone = departures_at(rt, alloc, &shared);
     drop(shared);
     gone
 }
 
-fn departures_at<L: Naming, E: Entry, W: Wait + time::Clock + Net>(
+fn departures_at<L: Ledger, W: Wait + time::Clock + Net>(
     rt: &W,
     alloc: Global,
-    shared: &Shared<L, E>,
+    shared: &Shared<L>,
 ) -> Option<[bool; 2]> {
     let frame = authentication(0xaa);
     let radio = Sim::new(alloc);
@@ -118,7 +123,7 @@ fn departures_at<L: Naming, E: Entry, W: Wait + time::Clock + Net>(
     Some(gone)
 }
 
-fn departures_by<L: Naming, E: Entry, W: Wait>(rt: &W, shared: &Shared<L, E>, seat: &mut Seat<L, E>) -> [bool; 2] {
+fn departures_by<L: Ledger, W: Wait>(rt: &W, shared: &Shared<L>, seat: &mut Seat<L>) -> [bool; 2] {
     [
         lets_go(rt, shared, seat, 400_000),
         lets_go(rt, shared, seat, 500_000),
@@ -127,15 +132,15 @@ fn departures_by<L: Naming, E: Entry, W: Wait>(rt: &W, shared: &Shared<L, E>, se
 
 #[test]
 fn a_frame_is_heard_at_its_moment(rt: HostRuntime) {
-    let gone = departures::<Brand, Change, _>(&rt, rt.alloc(), named_core(rt.alloc(), started_core(rt.alloc())));
+    let gone = departures::<Brand, _>(&rt, rt.alloc(), Blank::new(65_536));
     expect(&rt, gone, Some([false, true]));
 }
 
 // Whether a radio that passes so many calls is noted as up, by the worker that served it.
-fn noted_up_when_served<L: Naming, E: Entry, W: Wait + time::Clock + Net>(
+fn noted_up_when_served<L: Ledger, W: Wait + time::Clock + Net>(
     rt: &W,
     alloc: Global,
-    shared: &Shared<L, E>,
+    shared: &Shared<L>,
     calls: u64,
 ) -> Option<bool> {
     let radio = Failing::new(Sim::new(alloc), calls);
@@ -154,16 +159,18 @@ fn core_to_serve(alloc: Global, installs: bool) -> Option<Core> {
 }
 
 // The same of a core at which a station is to be installed, or none.
-fn up_when_served<L: Naming, E: Entry, W: Wait + time::Clock + Net>(
+fn up_when_served<L: Ledger, W: Wait + time::Clock + Net>(
     rt: &W,
     alloc: Global,
-    named: Option<Named<E>>,
+    blank: Blank,
+    installs: bool,
     calls: u64,
 ) -> Option<bool>
-    requires names { IfSome named (λ named. AreNames L.seats L.table L.commits named.names) }
-    requires first { IfSome named (λ named. named.core ≡ L.first) }
+    requires name { blank.name ≡ L.name }
+    requires parts { blank.parts ≡ L.parts }
+    requires all { blank.parts ≡ 65536 }
 {
-    let shared: Shared<L, E> = share(named)?;
+    let shared: Shared<L> = share(core_to_serve(alloc, installs), blank)?;
     let up = noted_up_when_served(rt, alloc, &shared, calls);
     drop(shared);
     up
@@ -180,42 +187,43 @@ const NOTED: &[(bool, u64, bool)] = &[
 #[test]
 fn whether_a_radio_is_up_is_noted(rt: HostRuntime) {
     for (installs, calls, up) in NOTED {
-        let named = named_core(rt.alloc(), core_to_serve(rt.alloc(), *installs));
-        let is_up = up_when_served::<Brand, Change, _>(&rt, rt.alloc(), named, *calls);
+        let blank = Blank::new(65_536);
+        let is_up = up_when_served::<Brand, _>(&rt, rt.alloc(), blank, *installs, *calls);
         expect(&rt, (*calls, is_up), (*calls, Some(*up)));
     }
 }
 
 // What passes the gate of two frames and their commit.
-fn gate_log<L: Naming, E: Entry, W: Wait + time::Clock + Net>(
+fn gate_log<L: Ledger, W: Wait + time::Clock + Net>(
     rt: &W,
     alloc: Global,
-    named: Option<Named<E>>,
+    blank: Blank,
 ) -> Option<u64>
-    requires names { IfSome named (λ named. AreNames L.seats L.table L.commits named.names) }
-    requires first { IfSome named (λ named. named.core ≡ L.first) }
+    requires name { blank.name ≡ L.name }
+    requires parts { blank.parts ≡ L.parts }
+    requires all { blank.parts ≡ 65536 }
 {
-    let shared: Shared<L, E> = share(named)?;
+    let shared: Shared<L> = share(started_core(alloc), blank)?;
     let logged = log_both(rt, alloc, &shared);
     drop(shared);
     logged
 }
 
 // Whether both frames are received.
-fn receives_both<L: Naming, E: Entry, W: Wait + time::Clock + Net>(
+fn receives_both<L: Ledger, W: Wait + time::Clock + Net>(
     rt: &W,
     alloc: Global,
-    shared: &Shared<L, E>,
+    shared: &Shared<L>,
     log: &Log,
 ) -> bool {
     let frames: [&[u8]; 2] = [&authentication(0xaa), &ASSOCIATION];
     serve(rt, alloc, shared, Sim::new(alloc), &frames, &Still, log).is_some()
 }
 
-fn log_both<L: Naming, E: Entry, W: Wait + time::Clock + Net>(
+fn log_both<L: Ledger, W: Wait + time::Clock + Net>(
     rt: &W,
     alloc: Global,
-    shared: &Shared<L, E>,
+    shared: &Shared<L>,
 ) -> Option<u64> {
     let log = Log::new();
     let commits = receives_both(rt, alloc, shared, &log)
@@ -226,7 +234,7 @@ fn log_both<L: Naming, E: Entry, W: Wait + time::Clock + Net>(
 // The entries 2 and 3, and the four turns of a commit.
 #[test]
 fn a_gate_is_passed_at_each_entry_and_each_turn(rt: HostRuntime) {
-    let logged = gate_log::<Brand, Change, _>(&rt, rt.alloc(), named_core(rt.alloc(), started_core(rt.alloc())));
+    let logged = gate_log::<Brand, _>(&rt, rt.alloc(), Blank::new(65_536));
     expect(&rt, logged, Some(0x23_baba_baba));
 }
 
@@ -248,10 +256,10 @@ fn is_probe_answer(outs: &[Out]) -> bool {
 }
 
 // Whether that answer is handed out.
-fn collects_probe_answer<L: Naming, E: Entry, W: Wait>(
+fn collects_probe_answer<L: Ledger, W: Wait>(
     rt: &W,
-    shared: &Shared<L, E>,
-    seat: &mut Seat<L, E>,
+    shared: &Shared<L>,
+    seat: &mut Seat<L>,
 ) -> bool {
     match shared.collect(rt, seat, Recipient::Radio(WLAN0)) {
         Ok(outs) => is_probe_answer(&outs),
@@ -260,10 +268,10 @@ fn collects_probe_answer<L: Naming, E: Entry, W: Wait>(
 }
 
 // Whether the answer to that frame is handed out once it is committed.
-fn commits_probe<L: Naming, E: Entry, W: Wait + time::Clock + Net>(
+fn commits_probe<L: Ledger, W: Wait + time::Clock + Net>(
     rt: &W,
     alloc: Global,
-    shared: &Shared<L, E>,
+    shared: &Shared<L>,
     log: &Log,
 ) -> Option<bool> {
     let mut seat = serve(rt, alloc, shared, Sim::new(alloc), &[&PROBE], &Still, log)?;
@@ -273,20 +281,18 @@ fn commits_probe<L: Naming, E: Entry, W: Wait + time::Clock + Net>(
     Some(answered)
 }
 
-fn settled_core(alloc: Global) -> Option<Core> {
-    settle(alloc, started_core(alloc)?)
-}
-
 // The same, and what passed the gate.
-fn log_probe<L: Naming, E: Entry, W: Wait + time::Clock + Net>(
+fn log_probe<L: Ledger, W: Wait + time::Clock + Net>(
     rt: &W,
     alloc: Global,
-    named: Option<Named<E>>,
+    blank: Blank,
 ) -> Option<(bool, u64)>
-    requires names { IfSome named (λ named. AreNames L.seats L.table L.commits named.names) }
-    requires first { IfSome named (λ named. named.core ≡ L.first) }
+    requires name { blank.name ≡ L.name }
+    requires parts { blank.parts ≡ L.parts }
+    requires all { blank.parts ≡ 65536 }
 {
-    let shared: Shared<L, E> = share(named)?;
+    let core = settle(alloc, started_core(alloc)?);
+    let shared: Shared<L> = share(core, blank)?;
     let log = Log::new();
     let answered = commits_probe(rt, alloc, &shared, &log);
     drop(shared);
@@ -296,6 +302,6 @@ fn log_probe<L: Naming, E: Entry, W: Wait + time::Clock + Net>(
 // The entry 2 alone: no call of the device.
 #[test]
 fn what_changes_nothing_makes_no_call(rt: HostRuntime) {
-    let found = log_probe::<Brand, Change, _>(&rt, rt.alloc(), named_core(rt.alloc(), settled_core(rt.alloc())));
+    let found = log_probe::<Brand, _>(&rt, rt.alloc(), Blank::new(65_536));
     expect(&rt, found, Some((true, 2)));
 }

@@ -1,12 +1,11 @@
 // What rests between two tries of a radio whose driver fails, told by looks at the clock: who rests looks at it.
-ghost use Rattle.std.specs.Prelude.{◌≡◌, IfSome};
-ghost use Rattle.apd_desk.specs.Naming.{AreNames};
+ghost use Rattle.std.specs.Prelude.{◌≡◌};
 
-use crate::common::{Still, associated_core, new_seat, serve_alone, share, Named, named_core};
+use crate::common::{Still, associated_core, new_seat, serve_alone, share};
 use crate::expect::expect;
 use crate::habit::{Habit, Habitual};
 use crate::staged::Staged;
-use apd_desk::{NoGate, Shared, Entry, Naming, Change};
+use apd_desk::{NoGate, Shared};
 use apd_radio::{Failing, Sim};
 use std::alloc::Global;
 use std::io;
@@ -14,6 +13,7 @@ use std::marker::Brand;
 use std::net::{Net, SocketAddr, UdpSocket};
 use std::sync::Wait;
 use std::sync::atomic::{AtomicU64, Ordering};
+use std::sync::ledger::{Blank, Ledger};
 use std::time::{Clock, Duration};
 
 /// How often the clock was looked at, and how often it was so between two times that a radio was taken down.
@@ -112,10 +112,10 @@ impl Habit for Telling<'_> {
 }
 
 // Serves a radio whose driver fails when a station is installed, until a stop at its first poll.
-fn serve<L: Naming, E: Entry, W: Wait + Clock + Net>(
+fn serve<L: Ledger, W: Wait + Clock + Net>(
     rt: &W,
     alloc: Global,
-    shared: &Shared<L, E>,
+    shared: &Shared<L>,
     looks: &Looks,
 ) -> Option<()> {
     let seat = new_seat(rt, shared)?;
@@ -125,16 +125,17 @@ fn serve<L: Naming, E: Entry, W: Wait + Clock + Net>(
     Some(())
 }
 
-fn rests<L: Naming, E: Entry, W: Wait + Clock + Net>(
+fn rests<L: Ledger, W: Wait + Clock + Net>(
     rt: &W,
     alloc: Global,
-    named: Option<Named<E>>,
+    blank: Blank,
     looks: &Looks,
 ) -> Option<()>
-    requires names { IfSome named (λ named. AreNames L.seats L.table L.commits named.names) }
-    requires first { IfSome named (λ named. named.core ≡ L.first) }
+    requires name { blank.name ≡ L.name }
+    requires parts { blank.parts ≡ L.parts }
+    requires all { blank.parts ≡ 65536 }
 {
-    let shared: Shared<L, E> = share(named)?;
+    let shared: Shared<L> = share(associated_core(alloc), blank)?;
     let served = serve(rt, alloc, &shared, looks);
     drop(shared);
     served
@@ -146,7 +147,7 @@ fn there_is_a_rest_between_two_tries(rt: HostRuntime) {
     let looks = Looks::new();
     let alloc = rt.alloc();
     let counting = Counting { rt, looks: &looks };
-    let served = rests::<Brand, Change, _>(&counting, alloc, named_core(alloc, associated_core(alloc)), &looks);
+    let served = rests::<Brand, _>(&counting, alloc, Blank::new(65_536), &looks);
     drop(counting);
     expect(&rt, (served, looks.found()), (Some(()), (4, 2)));
 }

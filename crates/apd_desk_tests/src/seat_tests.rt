@@ -1,15 +1,18 @@
 // Seats: as many as there may be, each its own, and all back at the end.
-ghost use Rattle.std.specs.Prelude.{◌≡◌, IfSome};
-ghost use Rattle.apd_desk.specs.Naming.{AreNames};
+ghost use Rattle.std.specs.Prelude.{◌≡◌};
 
-use crate::common::{Host, WLAN0, adds, authentication, close, commit_all, new_core, new_seat, share, started_core, station, submits, Named, named_core};
+use crate::common::{
+    Host, WLAN0, adds, authentication, close, commit_all, new_core, new_seat, share, started_core,
+    station, submits,
+};
 use crate::expect::expect;
 use apd_core::Core;
 use apd_ctrl::Query;
-use apd_desk::{Seat, Shared, Entry, Naming, Change};
+use apd_desk::{Seat, Shared};
 use std::alloc::Global;
 use std::marker::Brand;
 use std::sync::Wait;
+use std::sync::ledger::{Blank, Ledger};
 use std::thread::map_indices;
 
 /// What is told of an authenticated station behind its address.
@@ -21,7 +24,7 @@ fn last(number: usize) -> Option<u8> {
 }
 
 // A new seat, by which the station of this number was authenticated.
-fn seat_of<L: Naming, E: Entry, W: Wait>(rt: &W, shared: &Shared<L, E>, number: usize) -> Option<Seat<L, E>> {
+fn seat_of<L: Ledger, W: Wait>(rt: &W, shared: &Shared<L>, number: usize) -> Option<Seat<L>> {
     let last = last(number)?;
     let mut seat = new_seat(rt, shared)?;
     submits(rt, shared, &mut seat, &authentication(last)).then_some(seat)
@@ -42,11 +45,11 @@ fn adds_each<X: Drop>(list: &mut Vec<X>, found: Vec<Option<X>>) -> bool {
     true
 }
 
-fn eight_seats<L: Naming + Send + Sync, E: Entry + Send + Sync, W: Host>(
+fn eight_seats<L: Ledger + Send + Sync, W: Host>(
     rt: &W,
     alloc: Global,
-    shared: &Shared<L, E>,
-) -> Option<Vec<Seat<L, E>>> {
+    shared: &Shared<L>,
+) -> Option<Vec<Seat<L>>> {
     all(
         alloc,
         map_indices(rt, alloc, 8, &|number| seat_of(rt, shared, number)).ok()?,
@@ -55,22 +58,24 @@ fn eight_seats<L: Naming + Send + Sync, E: Entry + Send + Sync, W: Host>(
 
 // Whether the core shows the first eight stations and not the ninth, and how many entries it accepted, once each of
 // eight threads had its seat.
-fn eight_stations<L: Naming + Send + Sync, E: Entry + Send + Sync, W: Host>(
+fn eight_stations<L: Ledger + Send + Sync, W: Host>(
     rt: &W,
     alloc: Global,
-    named: Option<Named<E>>,
+    blank: Blank,
 ) -> Option<(bool, u64)>
-    requires names { IfSome named (λ named. AreNames L.seats L.table L.commits named.names) }
-    requires first { IfSome named (λ named. named.core ≡ L.first) }
+    requires name { blank.name ≡ L.name }
+    requires parts { blank.parts ≡ L.parts }
+    requires all { blank.parts ≡ 65536 }
 {
-    let shared: Shared<L, E> = share(named)?;
+    let shared: Shared<L> = share(started_core(alloc), blank)?;
     let seats = eight_seats(rt, alloc, &shared);
     commit_all(rt, alloc, &shared);
     close_and_show(shared, seats)
 }
 
 // What the core shows of the stations, and how many entries it accepted.
-fn close_and_show<L: Naming, E: Entry>(shared: Shared<L, E>, seats: Option<Vec<Seat<L, E>>>) -> Option<(bool, u64)>
+fn close_and_show<L: Ledger>(shared: Shared<L>, seats: Option<Vec<Seat<L>>>) -> Option<(bool, u64)>
+    requires { L.parts ≡ 65536 }
 {
     let (shared, seats) = Some(shared).zip(seats)?;
     let (core, number) = close(shared, seats)?;
@@ -105,22 +110,23 @@ fn shows_eight(core: &Core) -> bool {
 
 #[test]
 fn each_seat_its_station(rt: HostRuntime) {
-    let shown = eight_stations::<Brand, Change, _>(&rt, rt.alloc(), named_core(rt.alloc(), started_core(rt.alloc())));
+    let shown = eight_stations::<Brand, _>(&rt, rt.alloc(), Blank::new(65_536));
     expect(&rt, shown, Some((true, 8)));
 }
 
 // How many seats are given.
-fn given_seats<L: Naming, E: Entry, W: Wait>(rt: &W, named: Option<Named<E>>) -> Option<u64>
-    requires names { IfSome named (λ named. AreNames L.seats L.table L.commits named.names) }
-    requires first { IfSome named (λ named. named.core ≡ L.first) }
+fn given_seats<L: Ledger, W: Wait>(rt: &W, alloc: Global, blank: Blank) -> Option<u64>
+    requires name { blank.name ≡ L.name }
+    requires parts { blank.parts ≡ L.parts }
+    requires all { blank.parts ≡ 65536 }
 {
-    let shared: Shared<L, E> = share(named)?;
+    let shared: Shared<L> = share(new_core(alloc), blank)?;
     let given = count_seats(rt, &shared);
     drop(shared);
     Some(given)
 }
 
-fn count_seats<L: Naming, E: Entry, W: Wait>(rt: &W, shared: &Shared<L, E>) -> u64 {
+fn count_seats<L: Ledger, W: Wait>(rt: &W, shared: &Shared<L>) -> u64 {
     let mut given: u64 = 0;
     for _ask in 0..65_600 {
         if new_seat(rt, shared).is_some() {
@@ -132,37 +138,38 @@ fn count_seats<L: Naming, E: Entry, W: Wait>(rt: &W, shared: &Shared<L, E>) -> u
 
 #[test]
 fn there_are_65536_seats(rt: HostRuntime) {
-    let given = given_seats::<Brand, Change, _>(&rt, named_core(rt.alloc(), new_core(rt.alloc())));
+    let given = given_seats::<Brand, _>(&rt, rt.alloc(), Blank::new(65_536));
     expect(&rt, given, Some(65_536));
 }
 
 // A list with one more seat.
-fn with<L: Naming, E: Entry>(seats: Vec<Seat<L, E>>, seat: Seat<L, E>) -> Option<Vec<Seat<L, E>>> {
+fn with<L: Ledger>(seats: Vec<Seat<L>>, seat: Seat<L>) -> Option<Vec<Seat<L>>> {
     let mut seats = seats;
     seats.push(seat).is_ok().then_some(seats)
 }
 
 // The seat of the station 0 in a list.
-fn first_seat<L: Naming, E: Entry, W: Wait>(
+fn first_seat<L: Ledger, W: Wait>(
     rt: &W,
     alloc: Global,
-    shared: &Shared<L, E>,
-) -> Option<Vec<Seat<L, E>>> {
+    shared: &Shared<L>,
+) -> Option<Vec<Seat<L>>> {
     let seat = seat_of(rt, shared, 0)?;
     with(Vec::new(alloc), seat)
 }
 
 // The same, and that of the station 1.
-fn two_seats<L: Naming, E: Entry, W: Wait>(
+fn two_seats<L: Ledger, W: Wait>(
     rt: &W,
     alloc: Global,
-    shared: &Shared<L, E>,
-) -> Option<(Vec<Seat<L, E>>, Seat<L, E>)> {
+    shared: &Shared<L>,
+) -> Option<(Vec<Seat<L>>, Seat<L>)> {
     first_seat(rt, alloc, shared).zip(seat_of(rt, shared, 1))
 }
 
 // Closes with these seats. How many entries there were.
-fn close_with<L: Naming, E: Entry>(shared: Shared<L, E>, seats: Option<Vec<Seat<L, E>>>) -> Option<u64>
+fn close_with<L: Ledger>(shared: Shared<L>, seats: Option<Vec<Seat<L>>>) -> Option<u64>
+    requires { L.parts ≡ 65536 }
 {
     let (shared, seats) = Some(shared).zip(seats)?;
     let (core, number) = close(shared, seats)?;
@@ -171,11 +178,12 @@ fn close_with<L: Naming, E: Entry>(shared: Shared<L, E>, seats: Option<Vec<Seat<
 }
 
 // Closes without this seat, and with it. How many seats came back first, and how many entries there were.
-fn close_late<L: Naming, E: Entry>(
-    shared: Shared<L, E>,
-    seats: Vec<Seat<L, E>>,
-    late: Seat<L, E>,
+fn close_late<L: Ledger>(
+    shared: Shared<L>,
+    seats: Vec<Seat<L>>,
+    late: Seat<L>,
 ) -> Option<(usize, u64)>
+    requires { L.parts ≡ 65536 }
 {
     let ((shared, seats), late) = shared.close(seats).err().zip(Some(late))?;
     let back = seats.len();
@@ -183,11 +191,12 @@ fn close_late<L: Naming, E: Entry>(
     Some((back, number))
 }
 
-fn close_twice<L: Naming, E: Entry, W: Wait>(rt: &W, alloc: Global, named: Option<Named<E>>) -> Option<(usize, u64)>
-    requires names { IfSome named (λ named. AreNames L.seats L.table L.commits named.names) }
-    requires first { IfSome named (λ named. named.core ≡ L.first) }
+fn close_twice<L: Ledger, W: Wait>(rt: &W, alloc: Global, blank: Blank) -> Option<(usize, u64)>
+    requires name { blank.name ≡ L.name }
+    requires parts { blank.parts ≡ L.parts }
+    requires all { blank.parts ≡ 65536 }
 {
-    let shared: Shared<L, E> = share(named)?;
+    let shared: Shared<L> = share(started_core(alloc), blank)?;
     let two = two_seats(rt, alloc, &shared);
     let (shared, (seats, late)) = Some(shared).zip(two)?;
     close_late(shared, seats, late)
@@ -195,6 +204,6 @@ fn close_twice<L: Naming, E: Entry, W: Wait>(rt: &W, alloc: Global, named: Optio
 
 #[test]
 fn a_missing_seat_hands_all_back(rt: HostRuntime) {
-    let closed = close_twice::<Brand, Change, _>(&rt, rt.alloc(), named_core(rt.alloc(), started_core(rt.alloc())));
+    let closed = close_twice::<Brand, _>(&rt, rt.alloc(), Blank::new(65_536));
     expect(&rt, closed, Some((1, 2)));
 }

@@ -1,8 +1,10 @@
 // A radio whose driver fails while stations are served, with spare radios and without, and another radio beside it.
-ghost use Rattle.std.specs.Prelude.{◌≡◌, IfSome};
-ghost use Rattle.apd_desk.specs.Naming.{AreNames};
+ghost use Rattle.std.specs.Prelude.{◌≡◌};
 
-use crate::common::{Host, Still, WLAN0, WLAN1, adds, commit, core_of_two_radios, memory_flusher, new_seat, serve_radio, share, station, Named, named_core};
+use crate::common::{
+    Host, Still, WLAN0, WLAN1, adds, commit, core_of_two_radios, memory_flusher, new_seat,
+    serve_radio, share, station,
+};
 use crate::expect::expect;
 use crate::fed::{Asks, Fed, Frame, Stage, When};
 use crate::flaky::{Calls, Flaky};
@@ -10,7 +12,7 @@ use crate::habit::Habitual;
 use crate::operator::{begin, replies_to};
 use apd_base::{Addr, Bssid};
 use apd_ctrl::Query;
-use apd_desk::{NoGate, Seat, Shared, Entry, Naming, Change};
+use apd_desk::{NoGate, Seat, Shared};
 use apd_disk::MemDisk;
 use apd_flusher::Flusher;
 use apd_mlme::Out;
@@ -21,6 +23,7 @@ use std::marker::Brand;
 use std::net::Net;
 use std::process::Abort;
 use std::sync::Wait;
+use std::sync::ledger::{Blank, Ledger};
 use std::thread::{join, sleep};
 use std::time::{Clock, Duration};
 
@@ -171,10 +174,10 @@ impl Found {
 }
 
 // Whether a station's row is there, and its flags begin so.
-fn shows<L: Naming, E: Entry, W: Wait>(
+fn shows<L: Ledger, W: Wait>(
     rt: &W,
-    shared: &Shared<L, E>,
-    seat: &mut Seat<L, E>,
+    shared: &Shared<L>,
+    seat: &mut Seat<L>,
     row: (Bssid, u8),
     flags: &[u8],
 ) -> bool {
@@ -186,10 +189,10 @@ fn shows<L: Naming, E: Entry, W: Wait>(
 }
 
 // Waits until a station's flags begin so.
-fn comes<L: Naming, E: Entry, W: Wait + Clock>(
+fn comes<L: Ledger, W: Wait + Clock>(
     rt: &W,
-    shared: &Shared<L, E>,
-    seat: &mut Seat<L, E>,
+    shared: &Shared<L>,
+    seat: &mut Seat<L>,
     row: (Bssid, u8),
     flags: &[u8],
 ) -> bool {
@@ -203,20 +206,20 @@ fn comes<L: Naming, E: Entry, W: Wait + Clock>(
 }
 
 // Waits for both stations that associate last.
-fn both_associate<L: Naming, E: Entry, W: Wait + Clock>(
+fn both_associate<L: Ledger, W: Wait + Clock>(
     rt: &W,
-    shared: &Shared<L, E>,
-    seat: &mut Seat<L, E>,
+    shared: &Shared<L>,
+    seat: &mut Seat<L>,
 ) -> bool {
     comes(rt, shared, seat, (WLAN0, 0xbb), b"flags=[AUTH][ASSOC]")
         && comes(rt, shared, seat, (WLAN1, 0xdd), b"flags=[AUTH][ASSOC]")
 }
 
 // Waits for the last further station at each radio.
-fn both_authenticate<L: Naming, E: Entry, W: Wait + Clock>(
+fn both_authenticate<L: Ledger, W: Wait + Clock>(
     rt: &W,
-    shared: &Shared<L, E>,
-    seat: &mut Seat<L, E>,
+    shared: &Shared<L>,
+    seat: &mut Seat<L>,
 ) -> bool {
     comes(rt, shared, seat, (WLAN0, 0xc2), b"flags=[AUTH]")
         && comes(rt, shared, seat, (WLAN1, 0xe2), b"flags=[AUTH]")
@@ -225,10 +228,10 @@ fn both_authenticate<L: Naming, E: Entry, W: Wait + Clock>(
 // Waits for both stations that associate last, lets two further ones come at each radio, and waits for those. A radio
 // receives the second in a later turn than the first: at that turn's look those stations were settled, so its slot is
 // given them in that turn at the latest, and whenever a stop comes.
-fn all_come<L: Naming, E: Entry, W: Wait + Clock>(
+fn all_come<L: Ledger, W: Wait + Clock>(
     rt: &W,
-    shared: &Shared<L, E>,
-    seat: &mut Seat<L, E>,
+    shared: &Shared<L>,
+    seat: &mut Seat<L>,
     stages: &Stages,
 ) -> bool {
     let associated = both_associate(rt, shared, seat);
@@ -238,11 +241,11 @@ fn all_come<L: Naming, E: Entry, W: Wait + Clock>(
 }
 
 // Asks, and tells all to stop. Whether the replies begin so.
-fn replies<L: Naming, E: Entry, W: Wait + Clock + Net>(
+fn replies<L: Ledger, W: Wait + Clock + Net>(
     rt: &W,
     alloc: Global,
-    shared: &Shared<L, E>,
-    seat: Seat<L, E>,
+    shared: &Shared<L>,
+    seat: Seat<L>,
     texts: &[&[u8]],
 ) -> bool {
     let replies = replies_to(rt, alloc, shared, seat, ASKED);
@@ -253,7 +256,7 @@ fn replies<L: Naming, E: Entry, W: Wait + Clock + Net>(
 
 // Waits until it is noted of the first radio that it is up, or that it is down: it may be tried again still. Tells
 // whether it came so.
-fn wait_until_noted<L: Naming, E: Entry, W: Wait + Clock>(rt: &W, shared: &Shared<L, E>, up: bool) -> bool {
+fn wait_until_noted<L: Ledger, W: Wait + Clock>(rt: &W, shared: &Shared<L>, up: bool) -> bool {
     for _look in 0..LOOKS {
         if shared.is_noted_up(rt, WLAN0) == up {
             return true;
@@ -265,10 +268,10 @@ fn wait_until_noted<L: Naming, E: Entry, W: Wait + Clock>(rt: &W, shared: &Share
 
 // Waits until all have come, and the first radio is as it is told to be; asks then, and tells all to stop. Whether all
 // came so, and the replies begin so.
-fn ask<L: Naming, E: Entry, W: Wait + Clock + Net>(
+fn ask<L: Ledger, W: Wait + Clock + Net>(
     rt: &W,
     alloc: Global,
-    shared: &Shared<L, E>,
+    shared: &Shared<L>,
     stages: &Stages,
     scene: Scene,
 ) -> Option<bool> {
@@ -279,10 +282,10 @@ fn ask<L: Naming, E: Entry, W: Wait + Clock + Net>(
 }
 
 // Commits, and asks.
-fn commit_and_ask<L: Naming + Send + Sync, E: Entry + Send + Sync, W: Host>(
+fn commit_and_ask<L: Ledger + Send + Sync, W: Host>(
     rt: &W,
     alloc: Global,
-    shared: &Shared<L, E>,
+    shared: &Shared<L>,
     flusher: Flusher<MemDisk>,
     stages: &Stages,
     scene: Scene,
@@ -305,11 +308,11 @@ fn see<R: Radio>(slot: &Slot<R>, stations: [Addr; 2]) -> Seen {
 }
 
 // Serves a radio, and tells what is seen of these stations then.
-fn serve<L: Naming, E: Entry, W: Wait + Clock + Net, R: Radio>(
+fn serve<L: Ledger, W: Wait + Clock + Net, R: Radio>(
     rt: &W,
     alloc: Global,
-    shared: &Shared<L, E>,
-    seat: Seat<L, E>,
+    shared: &Shared<L>,
+    seat: Seat<L>,
     slot: Slot<R>,
     spares: Vec<R>,
     stations: [Addr; 2],
@@ -383,10 +386,10 @@ fn first_slot<'a>(alloc: Global, stage: &'a Stage, scene: Scene) -> Slot<Driver<
     }
 }
 
-fn serve_first<L: Naming, E: Entry, W: Wait + Clock + Net>(
+fn serve_first<L: Ledger, W: Wait + Clock + Net>(
     rt: &W,
     alloc: Global,
-    shared: &Shared<L, E>,
+    shared: &Shared<L>,
     stage: &Stage,
     scene: Scene,
 ) -> Option<Seen> {
@@ -396,10 +399,10 @@ fn serve_first<L: Naming, E: Entry, W: Wait + Clock + Net>(
     Some(serve(rt, alloc, shared, seat, slot, spares, stations))
 }
 
-fn serve_other<L: Naming, E: Entry, W: Wait + Clock + Net>(
+fn serve_other<L: Ledger, W: Wait + Clock + Net>(
     rt: &W,
     alloc: Global,
-    shared: &Shared<L, E>,
+    shared: &Shared<L>,
     stage: &Stage,
 ) -> Option<Seen> {
     let seat = new_seat(rt, shared)?;
@@ -413,10 +416,10 @@ fn serve_other<L: Naming, E: Entry, W: Wait + Clock + Net>(
 }
 
 // What is seen of both radios.
-fn serve_both<L: Naming + Send + Sync, E: Entry + Send + Sync, W: Host>(
+fn serve_both<L: Ledger + Send + Sync, W: Host>(
     rt: &W,
     alloc: Global,
-    shared: &Shared<L, E>,
+    shared: &Shared<L>,
     stages: &Stages,
     scene: Scene,
 ) -> (Option<Seen>, Option<Seen>) {
@@ -430,10 +433,10 @@ fn serve_both<L: Naming + Send + Sync, E: Entry + Send + Sync, W: Host>(
 // Whether both are served, and what is seen of them.
 type Served = (bool, (Option<Seen>, Option<Seen>));
 
-fn serve_and_ask<L: Naming + Send + Sync, E: Entry + Send + Sync, W: Host>(
+fn serve_and_ask<L: Ledger + Send + Sync, W: Host>(
     rt: &W,
     alloc: Global,
-    shared: &Shared<L, E>,
+    shared: &Shared<L>,
     flusher: Flusher<MemDisk>,
     stages: &Stages,
     scene: Scene,
@@ -462,10 +465,10 @@ fn gather(stages: &Stages, served: Served) -> Found {
     }
 }
 
-fn run<L: Naming + Send + Sync, E: Entry + Send + Sync, W: Host>(
+fn run<L: Ledger + Send + Sync, W: Host>(
     rt: &W,
     alloc: Global,
-    shared: &Shared<L, E>,
+    shared: &Shared<L>,
     scene: Scene,
 ) -> Option<Told> {
     let flusher = memory_flusher(alloc)?;
@@ -477,16 +480,17 @@ fn run<L: Naming + Send + Sync, E: Entry + Send + Sync, W: Host>(
     Some(gather(&stages, served).tell())
 }
 
-fn find<L: Naming + Send + Sync, E: Entry + Send + Sync, W: Host>(
+fn find<L: Ledger + Send + Sync, W: Host>(
     rt: &W,
     alloc: Global,
-    named: Option<Named<E>>,
+    blank: Blank,
     scene: Scene,
 ) -> Option<Told>
-    requires names { IfSome named (λ named. AreNames L.seats L.table L.commits named.names) }
-    requires first { IfSome named (λ named. named.core ≡ L.first) }
+    requires name { blank.name ≡ L.name }
+    requires parts { blank.parts ≡ L.parts }
+    requires all { blank.parts ≡ 65536 }
 {
-    let shared: Shared<L, E> = share(named)?;
+    let shared: Shared<L> = share(core_of_two_radios(alloc), blank)?;
     let found = run(rt, alloc, &shared, scene);
     drop(shared);
     found
@@ -523,7 +527,7 @@ fn with_spares(spares: &'static [Spare]) -> Scene {
 #[test]
 fn a_spare_has_what_is_wanted(rt: HostRuntime) {
     let scene = with_spares(&[Spare(MANY, BEHIND)]);
-    let found = find::<Brand, Change, _>(&rt, rt.alloc(), named_core(rt.alloc(), core_of_two_radios(rt.alloc())), scene);
+    let found = find::<Brand, _>(&rt, rt.alloc(), Blank::new(65_536), scene);
     expect_found(&rt, found, MENDED);
 }
 
@@ -532,7 +536,7 @@ fn a_spare_has_what_is_wanted(rt: HostRuntime) {
 #[test]
 fn spares_are_tried_in_order(rt: HostRuntime) {
     let scene = with_spares(&[Spare(0, &[]), Spare(MANY, BEHIND)]);
-    let found = find::<Brand, Change, _>(&rt, rt.alloc(), named_core(rt.alloc(), core_of_two_radios(rt.alloc())), scene);
+    let found = find::<Brand, _>(&rt, rt.alloc(), Blank::new(65_536), scene);
     let wanted = Found {
         downs: 3 + 2,
         ..MENDED
@@ -550,7 +554,7 @@ fn a_slot_without_a_spare_stays_down_after_three_tries(rt: HostRuntime) {
         spares: &[],
         replies: &[b"state=DISABLED\n", UP, b"PONG\n"],
     };
-    let found = find::<Brand, Change, _>(&rt, rt.alloc(), named_core(rt.alloc(), core_of_two_radios(rt.alloc())), scene);
+    let found = find::<Brand, _>(&rt, rt.alloc(), Blank::new(65_536), scene);
     let wanted = Found {
         served: true,
         first: Some((false, [None, Some(2)], [None, None])),
@@ -568,7 +572,7 @@ fn a_slot_without_a_spare_stays_down_after_three_tries(rt: HostRuntime) {
 #[test]
 fn a_spare_that_fails_has_a_spare(rt: HostRuntime) {
     let scene = with_spares(&[Spare(3, BETWEEN), Spare(MANY, LAST)]);
-    let found = find::<Brand, Change, _>(&rt, rt.alloc(), named_core(rt.alloc(), core_of_two_radios(rt.alloc())), scene);
+    let found = find::<Brand, _>(&rt, rt.alloc(), Blank::new(65_536), scene);
     let wanted = Found {
         downs: 3 + 2,
         ..MENDED
@@ -598,7 +602,7 @@ fn alone(begins: Begins) -> Scene {
 fn a_slot_that_is_given_anew_what_is_wanted_is_up(rt: HostRuntime) {
     for (faults, tries) in [(1, 1), (3, 3)].as_slice() {
         let scene = alone(Begins::Up(*faults));
-        let found = find::<Brand, Change, _>(&rt, rt.alloc(), named_core(rt.alloc(), core_of_two_radios(rt.alloc())), scene);
+        let found = find::<Brand, _>(&rt, rt.alloc(), Blank::new(65_536), scene);
         expect(
             &rt,
             (*faults, found),
@@ -611,6 +615,6 @@ fn a_slot_that_is_given_anew_what_is_wanted_is_up(rt: HostRuntime) {
 #[test]
 fn a_slot_that_is_down_at_first_is_mended(rt: HostRuntime) {
     let scene = alone(Begins::Down(0));
-    let found = find::<Brand, Change, _>(&rt, rt.alloc(), named_core(rt.alloc(), core_of_two_radios(rt.alloc())), scene);
+    let found = find::<Brand, _>(&rt, rt.alloc(), Blank::new(65_536), scene);
     expect_found(&rt, found, served_again(1));
 }

@@ -2,29 +2,30 @@
 use crate::common::stop;
 use crate::habit::{Given, Habit};
 use apd_base::Moment;
-use apd_desk::{Clock, Gate, Place, Shared, Entry, Naming};
+use apd_desk::{Clock, Gate, Place, Shared};
 use std::alloc::{AllocError, Global};
 use std::sync::Wait;
 use std::sync::atomic::{AtomicBool, AtomicU64, AtomicUsize, Ordering};
+use std::sync::ledger::Ledger;
 use std::thread::sleep;
 use std::time;
 use std::time::Duration;
 
 /// Tells its moments one after another, and with the last one tells all to stop.
 #[derive(Drop)]
-pub(crate) struct StagedClock<'a, L: Naming, E: Entry, W: Wait> {
+pub(crate) struct StagedClock<'a, L: Ledger, W: Wait> {
     rt: &'a W,
-    shared: &'a Shared<L, E>,
+    shared: &'a Shared<L>,
     moments: &'a [u64],
     told: AtomicUsize,
 }
 
-impl<'a, L: Naming, E: Entry, W: Wait> StagedClock<'a, L, E, W> {
+impl<'a, L: Ledger, W: Wait> StagedClock<'a, L, W> {
     pub(crate) fn new(
         rt: &'a W,
-        shared: &'a Shared<L, E>,
+        shared: &'a Shared<L>,
         moments: &'a [u64],
-    ) -> StagedClock<'a, L, E, W> {
+    ) -> StagedClock<'a, L, W> {
         StagedClock {
             rt,
             shared,
@@ -34,7 +35,7 @@ impl<'a, L: Naming, E: Entry, W: Wait> StagedClock<'a, L, E, W> {
     }
 }
 
-impl<L: Naming, E: Entry, W: Wait> Clock for StagedClock<'_, L, E, W> {
+impl<L: Ledger, W: Wait> Clock for StagedClock<'_, L, W> {
     fn now(&self) -> Moment {
         let at = self.told.fetch_add(1, Ordering::SeqCst);
         if at.saturating_add(1) >= self.moments.len() {
@@ -89,21 +90,21 @@ impl Gate for Log {
 
 /// The habit of a radio that receives these frames, one at each look, and tells all to stop at the look behind them.
 #[derive(Drop)]
-pub(crate) struct Staged<'a, L: Naming, E: Entry, W: Wait> {
+pub(crate) struct Staged<'a, L: Ledger, W: Wait> {
     rt: &'a W,
     alloc: Global,
-    shared: &'a Shared<L, E>,
+    shared: &'a Shared<L>,
     frames: &'a [&'a [u8]],
     given: usize,
 }
 
-impl<'a, L: Naming, E: Entry, W: Wait> Staged<'a, L, E, W> {
+impl<'a, L: Ledger, W: Wait> Staged<'a, L, W> {
     pub(crate) fn new(
         rt: &'a W,
         alloc: Global,
-        shared: &'a Shared<L, E>,
+        shared: &'a Shared<L>,
         frames: &'a [&'a [u8]],
-    ) -> Staged<'a, L, E, W> {
+    ) -> Staged<'a, L, W> {
         Staged {
             rt,
             alloc,
@@ -124,7 +125,7 @@ impl<'a, L: Naming, E: Entry, W: Wait> Staged<'a, L, E, W> {
     }
 }
 
-impl<L: Naming, E: Entry, W: Wait> Habit for Staged<'_, L, E, W> {
+impl<L: Ledger, W: Wait> Habit for Staged<'_, L, W> {
     fn give(&mut self) -> Option<Given> {
         Some(self.next())
     }

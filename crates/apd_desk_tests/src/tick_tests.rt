@@ -1,14 +1,16 @@
 // When the worker of ticks lets stations go, and how many.
-ghost use Rattle.std.specs.Prelude.{◌≡◌, IfSome};
-ghost use Rattle.apd_desk.specs.Naming.{AreNames};
+ghost use Rattle.std.specs.Prelude.{◌≡◌};
 
 use crate::asking::rest;
-use crate::common::{Host, WLAN0, authentication, commit, enters_at, memory_flusher, new_seat, share, started_core, stop, Named, named_core};
+use crate::common::{
+    Host, WLAN0, authentication, commit, enters_at, memory_flusher, new_seat, share, started_core,
+    stop,
+};
 use crate::expect::expect;
 use crate::staged::StagedClock;
 use apd_base::Moment;
 use apd_core::{Core, Input};
-use apd_desk::{Clock, Gate, NoGate, Place, Shared, tick_worker, Entry, Naming, Change};
+use apd_desk::{Clock, Gate, NoGate, Place, Shared, tick_worker};
 use apd_disk::MemDisk;
 use apd_flusher::Flusher;
 use std::alloc::Global;
@@ -16,6 +18,7 @@ use std::io;
 use std::marker::Brand;
 use std::sync::Wait;
 use std::sync::atomic::{AtomicU64, Ordering};
+use std::sync::ledger::{Blank, Ledger};
 use std::thread::{join, sleep};
 use std::time::{self, Duration};
 
@@ -52,12 +55,12 @@ impl<R: time::Clock> time::Clock for Paced<'_, R> {
 
 /// A gate that tells all to stop at the first entry.
 #[derive(Drop)]
-struct Stopping<'a, L: Naming, E: Entry, W: Wait> {
+struct Stopping<'a, L: Ledger, W: Wait> {
     rt: &'a W,
-    shared: &'a Shared<L, E>,
+    shared: &'a Shared<L>,
 }
 
-impl<L: Naming, E: Entry, W: Wait> Gate for Stopping<'_, L, E, W> {
+impl<L: Ledger, W: Wait> Gate for Stopping<'_, L, W> {
     fn pass(&self, _at: Place) {
         stop(self.rt, self.shared);
     }
@@ -91,9 +94,9 @@ fn silent_core(alloc: Global, count: u16) -> Option<Core> {
 }
 
 // How many ticks become entries at these moments, the first of which is that of the worker's begin.
-fn count<L: Naming, E: Entry, W: Wait + time::Clock, G: Gate>(
+fn count<L: Ledger, W: Wait + time::Clock, G: Gate>(
     rt: &W,
-    shared: &Shared<L, E>,
+    shared: &Shared<L>,
     moments: &[u64],
     gate: &G,
 ) -> Option<u64> {
@@ -106,30 +109,35 @@ fn count<L: Naming, E: Entry, W: Wait + time::Clock, G: Gate>(
 }
 
 // The same of a core at which so many stations, and one more, are silent.
-fn ticks<L: Naming, E: Entry, W: Wait + time::Clock>(
+fn ticks<L: Ledger, W: Wait + time::Clock>(
     rt: &W,
-    named: Option<Named<E>>,
+    alloc: Global,
+    blank: Blank,
+    silent: u16,
     moments: &[u64],
 ) -> Option<u64>
-    requires names { IfSome named (λ named. AreNames L.seats L.table L.commits named.names) }
-    requires first { IfSome named (λ named. named.core ≡ L.first) }
+    requires name { blank.name ≡ L.name }
+    requires parts { blank.parts ≡ L.parts }
+    requires all { blank.parts ≡ 65536 }
 {
-    let shared: Shared<L, E> = share(named)?;
+    let shared: Shared<L> = share(silent_core(alloc, silent), blank)?;
     let ticks = count(rt, &shared, moments, &NoGate);
     drop(shared);
     ticks
 }
 
 // How many become entries where the first one tells all to stop.
-fn ticks_until_a_stop<L: Naming, E: Entry, W: Wait + time::Clock>(
+fn ticks_until_a_stop<L: Ledger, W: Wait + time::Clock>(
     rt: &W,
-    named: Option<Named<E>>,
+    alloc: Global,
+    blank: Blank,
     moments: &[u64],
 ) -> Option<u64>
-    requires names { IfSome named (λ named. AreNames L.seats L.table L.commits named.names) }
-    requires first { IfSome named (λ named. named.core ≡ L.first) }
+    requires name { blank.name ≡ L.name }
+    requires parts { blank.parts ≡ L.parts }
+    requires all { blank.parts ≡ 65536 }
 {
-    let shared: Shared<L, E> = share(named)?;
+    let shared: Shared<L> = share(silent_core(alloc, 3), blank)?;
     let gate = Stopping {
         rt,
         shared: &shared,
@@ -143,7 +151,7 @@ fn ticks_until_a_stop<L: Naming, E: Entry, W: Wait + time::Clock>(
 #[test]
 fn nobody_goes_before_the_time(rt: HostRuntime) {
     let moments = &[399_000, 399_500, 399_999];
-    let ticks = ticks::<Brand, Change, _>(&rt, named_core(rt.alloc(), silent_core(rt.alloc(), 2)), moments);
+    let ticks = ticks::<Brand, _>(&rt, rt.alloc(), Blank::new(65_536), 2, moments);
     expect(&rt, ticks, Some(0));
 }
 
@@ -157,7 +165,7 @@ const GONE: &[(&[u64], u64)] = &[
 fn a_turn_ends_once_nobody_is_silent(rt: HostRuntime) {
     for (moments, gone) in GONE {
         let still = Paced::new(&rt, 0);
-        let ticks = ticks::<Brand, Change, _>(&still, named_core(rt.alloc(), silent_core(rt.alloc(), 3)), moments);
+        let ticks = ticks::<Brand, _>(&still, rt.alloc(), Blank::new(65_536), 3, moments);
         drop(still);
         expect(&rt, ticks, Some(*gone));
     }
@@ -172,7 +180,7 @@ fn a_jump_of_the_clock_is_one_turn(rt: HostRuntime) {
     for (pace, gone) in AT_ONCE {
         let paced = Paced::new(&rt, *pace);
         let moments = &[399_000, 10_000_000, 10_000_001];
-        let ticks = ticks::<Brand, Change, _>(&paced, named_core(rt.alloc(), silent_core(rt.alloc(), 300)), moments);
+        let ticks = ticks::<Brand, _>(&paced, rt.alloc(), Blank::new(65_536), 300, moments);
         drop(paced);
         expect(&rt, ticks, Some(*gone));
     }
@@ -182,7 +190,7 @@ fn a_jump_of_the_clock_is_one_turn(rt: HostRuntime) {
 fn a_stop_ends_a_turn(rt: HostRuntime) {
     let still = Paced::new(&rt, 0);
     let moments = &[399_000, 400_000, 400_001];
-    let ticks = ticks_until_a_stop::<Brand, Change, _>(&still, named_core(rt.alloc(), silent_core(rt.alloc(), 3)), moments);
+    let ticks = ticks_until_a_stop::<Brand, _>(&still, rt.alloc(), Blank::new(65_536), moments);
     drop(still);
     expect(&rt, ticks, Some(1));
 }
@@ -223,15 +231,15 @@ impl Gate for Calls {
 /// The clock of a worker whose one turn comes when the worker that commits rests, behind a first batch. It tells all to
 /// stop once a second batch is committed, or does not come.
 #[derive(Drop)]
-struct Between<'a, L: Naming, E: Entry, W: Wait + time::Clock> {
+struct Between<'a, L: Ledger, W: Wait + time::Clock> {
     rt: &'a W,
-    shared: &'a Shared<L, E>,
+    shared: &'a Shared<L>,
     calls: &'a Calls,
     asked: AtomicU64,
     came: AtomicU64,
 }
 
-impl<L: Naming, E: Entry, W: Wait + time::Clock> Clock for Between<'_, L, E, W> {
+impl<L: Ledger, W: Wait + time::Clock> Clock for Between<'_, L, W> {
     fn now(&self) -> Moment {
         match self.asked.fetch_add(1, Ordering::SeqCst) {
             0 => Moment(399_000),
@@ -251,7 +259,7 @@ impl<L: Naming, E: Entry, W: Wait + time::Clock> Clock for Between<'_, L, E, W> 
 }
 
 // Whether what a turn of ticks enters is committed before a stop.
-fn tick_once<L: Naming, E: Entry, W: Wait + time::Clock>(rt: &W, shared: &Shared<L, E>, calls: &Calls) -> bool {
+fn tick_once<L: Ledger, W: Wait + time::Clock>(rt: &W, shared: &Shared<L>, calls: &Calls) -> bool {
     let clock = Between {
         rt,
         shared,
@@ -268,9 +276,9 @@ fn tick_once<L: Naming, E: Entry, W: Wait + time::Clock>(rt: &W, shared: &Shared
 }
 
 // The same beside the worker that commits.
-fn tick_beside<L: Naming + Send + Sync, E: Entry + Send + Sync, W: Host>(
+fn tick_beside<L: Ledger + Send + Sync, W: Host>(
     rt: &W,
-    shared: &Shared<L, E>,
+    shared: &Shared<L>,
     flusher: Flusher<MemDisk>,
 ) -> bool {
     let calls = Calls {
@@ -286,15 +294,16 @@ fn tick_beside<L: Naming + Send + Sync, E: Entry + Send + Sync, W: Host>(
     came
 }
 
-fn commits_a_turn<L: Naming + Send + Sync, E: Entry + Send + Sync, W: Host>(
+fn commits_a_turn<L: Ledger + Send + Sync, W: Host>(
     rt: &W,
     alloc: Global,
-    named: Option<Named<E>>,
+    blank: Blank,
 ) -> Option<bool>
-    requires names { IfSome named (λ named. AreNames L.seats L.table L.commits named.names) }
-    requires first { IfSome named (λ named. named.core ≡ L.first) }
+    requires name { blank.name ≡ L.name }
+    requires parts { blank.parts ≡ L.parts }
+    requires all { blank.parts ≡ 65536 }
 {
-    let shared: Option<Shared<L, E>> = share(named);
+    let shared: Option<Shared<L>> = share(silent_core(alloc, 3), blank);
     let (shared, flusher) = shared.zip(memory_flusher(alloc))?;
     let came = tick_beside(rt, &shared, flusher);
     drop(shared);
@@ -303,6 +312,6 @@ fn commits_a_turn<L: Naming + Send + Sync, E: Entry + Send + Sync, W: Host>(
 
 #[test]
 fn a_turn_wakes_the_worker_that_commits(rt: HostRuntime) {
-    let came = commits_a_turn::<Brand, Change, _>(&rt, rt.alloc(), named_core(rt.alloc(), silent_core(rt.alloc(), 3)));
+    let came = commits_a_turn::<Brand, _>(&rt, rt.alloc(), Blank::new(65_536));
     expect(&rt, came, Some(true));
 }

@@ -1,15 +1,17 @@
 // Workers that wait are woken: by a frame, a command, an entry, what is settled, and a stop. Where one isn't, no answer
 // comes in time; where a stop wakes nobody, the test has no end.
-ghost use Rattle.std.specs.Prelude.{◌≡◌, IfSome};
-ghost use Rattle.apd_desk.specs.Naming.{AreNames};
+ghost use Rattle.std.specs.Prelude.{◌≡◌};
 
 use crate::asking::{Asker, Commands, Question, free_port, rest};
-use crate::common::{Host, Still, WLAN0, adds, asked_core, authentication, commit, memory_flusher, new_seat, serve_port, serve_radio, serve_ticks, share, started_core, stop, Named, named_core};
+use crate::common::{
+    Host, Still, WLAN0, adds, asked_core, authentication, commit, memory_flusher, new_seat,
+    serve_port, serve_radio, serve_ticks, share, started_core, stop,
+};
 use crate::expect::expect;
 use crate::habit::{Habit, Habitual};
 use crate::staged::{Resting, Short, Trail, Trailed};
 use apd_core::Core;
-use apd_desk::{Gate, NoGate, Place, Shared, Entry, Naming, Change};
+use apd_desk::{Gate, NoGate, Place, Shared};
 use apd_disk::MemDisk;
 use apd_flusher::Flusher;
 use apd_radio::{Datagrams, Failing, Radio, UdpSim};
@@ -18,6 +20,7 @@ use std::alloc::Global;
 use std::marker::Brand;
 use std::net::Net;
 use std::sync::Wait;
+use std::sync::ledger::{Blank, Ledger};
 use std::thread::{join, sleep};
 use std::time::{Clock, Duration};
 
@@ -54,10 +57,10 @@ struct Crew<R: Radio> {
     port: Commands,
 }
 
-fn serve_slot<L: Naming, E: Entry, W: Wait + Clock + Net, R: Radio>(
+fn serve_slot<L: Ledger, W: Wait + Clock + Net, R: Radio>(
     rt: &W,
     alloc: Global,
-    shared: &Shared<L, E>,
+    shared: &Shared<L>,
     radio: R,
     spares: Vec<R>,
 ) {
@@ -67,10 +70,10 @@ fn serve_slot<L: Naming, E: Entry, W: Wait + Clock + Net, R: Radio>(
     }
 }
 
-fn serve_commands<L: Naming, E: Entry, W: Wait + Clock + Net>(
+fn serve_commands<L: Ledger, W: Wait + Clock + Net>(
     rt: &W,
     alloc: Global,
-    shared: &Shared<L, E>,
+    shared: &Shared<L>,
     port: Commands,
 ) {
     if let Some((seat, port)) = new_seat(rt, shared).zip(Some(port)) {
@@ -87,9 +90,9 @@ fn ask_each(rt: &(impl Clock + Net), questions: &[Question<'_>]) -> bool {
 }
 
 // Asks each question while all workers wait, and tells them to stop while they wait. Whether each was answered.
-fn ask<L: Naming, E: Entry, W: Wait + Clock + Net>(
+fn ask<L: Ledger, W: Wait + Clock + Net>(
     rt: &W,
-    shared: &Shared<L, E>,
+    shared: &Shared<L>,
     questions: &[Question<'_>],
 ) -> bool {
     let answered = ask_each(rt, questions);
@@ -99,9 +102,9 @@ fn ask<L: Naming, E: Entry, W: Wait + Clock + Net>(
 }
 
 // Asks beside the worker of ticks.
-fn tick_and_ask<L: Naming + Send + Sync, E: Entry + Send + Sync, W: Host>(
+fn tick_and_ask<L: Ledger + Send + Sync, W: Host>(
     rt: &W,
-    shared: &Shared<L, E>,
+    shared: &Shared<L>,
     questions: &[Question<'_>],
 ) -> bool {
     join(
@@ -113,10 +116,10 @@ fn tick_and_ask<L: Naming + Send + Sync, E: Entry + Send + Sync, W: Host>(
 }
 
 // The same beside the worker of the control port.
-fn serve_commands_and_ask<L: Naming + Send + Sync, E: Entry + Send + Sync, W: Host>(
+fn serve_commands_and_ask<L: Ledger + Send + Sync, W: Host>(
     rt: &W,
     alloc: Global,
-    shared: &Shared<L, E>,
+    shared: &Shared<L>,
     port: Commands,
     questions: &[Question<'_>],
 ) -> bool {
@@ -129,10 +132,10 @@ fn serve_commands_and_ask<L: Naming + Send + Sync, E: Entry + Send + Sync, W: Ho
 }
 
 // The same beside the worker that commits.
-fn commit_and_ask<L: Naming + Send + Sync, E: Entry + Send + Sync, W: Host>(
+fn commit_and_ask<L: Ledger + Send + Sync, W: Host>(
     rt: &W,
     alloc: Global,
-    shared: &Shared<L, E>,
+    shared: &Shared<L>,
     flusher: Flusher<MemDisk>,
     port: Commands,
     questions: &[Question<'_>],
@@ -146,10 +149,10 @@ fn commit_and_ask<L: Naming + Send + Sync, E: Entry + Send + Sync, W: Host>(
 }
 
 // Whether each question is answered by workers in threads of their own, which then end.
-fn serve_and_ask<L: Naming + Send + Sync, E: Entry + Send + Sync, W: Host, R: Radio + Send>(
+fn serve_and_ask<L: Ledger + Send + Sync, W: Host, R: Radio + Send>(
     rt: &W,
     alloc: Global,
-    shared: &Shared<L, E>,
+    shared: &Shared<L>,
     crew: Crew<R>,
     questions: &[Question<'_>],
 ) -> bool {
@@ -190,17 +193,19 @@ fn commands_at(rt: &impl Net, alloc: Global, port: u16) -> Option<Commands> {
 }
 
 // Shares this core, and whether each question is answered by workers round it. None is where core or crew is missing.
-fn share_and_ask<L: Naming + Send + Sync, E: Entry + Send + Sync, W: Host, R: Radio + Send>(
+fn share_and_ask<L: Ledger + Send + Sync, W: Host, R: Radio + Send>(
     rt: &W,
     alloc: Global,
-    named: Option<Named<E>>,
+    blank: Blank,
+    core: Option<Core>,
     crew: Option<Crew<R>>,
     questions: &[Question<'_>],
 ) -> bool
-    requires names { IfSome named (λ named. AreNames L.seats L.table L.commits named.names) }
-    requires first { IfSome named (λ named. named.core ≡ L.first) }
+    requires name { blank.name ≡ L.name }
+    requires parts { blank.parts ≡ L.parts }
+    requires all { blank.parts ≡ 65536 }
 {
-    let shared: Option<Shared<L, E>> = share(named);
+    let shared: Option<Shared<L>> = share(core, blank);
     match shared.zip(crew) {
         Some((shared, crew)) => {
             let answered = serve_and_ask(rt, alloc, &shared, crew, questions);
@@ -237,9 +242,10 @@ fn answers_of_each_kind<W: Host>(rt: &W, alloc: Global) -> Option<bool> {
         Question::new(radio_port, &frame, &AUTHENTICATED, 150),
         Question::new(port, b"PING", b"PONG\n", 150),
     ];
-    let named = named_core(alloc, started_core(alloc));
+    let core = started_core(alloc);
     let crew = crew_with(rt, alloc, UdpSim::new(rt, alloc, radio_port).ok(), port);
-    Some(share_and_ask::<Brand, Change, _, _>(rt, alloc, named, crew, &questions))
+    let blank = Blank::new(65_536);
+    Some(share_and_ask::<Brand, _, _>(rt, alloc, blank, core, crew, &questions))
 }
 
 #[test]
@@ -275,9 +281,10 @@ fn answers_at_a_spare<W: Host>(rt: &W, alloc: Global) -> Option<bool> {
     let ((first, last), port) = two_free_ports(rt).zip(free_port(rt))?;
     let frame = authentication(0xbb);
     let questions = [Question::new(last, &frame, &OTHER_AUTHENTICATED, 1); 2];
-    let named = named_core(alloc, asked_core(alloc));
+    let core = asked_core(alloc);
     let crew = crew_with_spare(rt, alloc, [first, last, port]);
-    Some(share_and_ask::<Brand, Change, _, _>(rt, alloc, named, crew, &questions))
+    let blank = Blank::new(65_536);
+    Some(share_and_ask::<Brand, _, _>(rt, alloc, blank, core, crew, &questions))
 }
 
 #[test]
@@ -301,10 +308,11 @@ fn answers_where_memory_lacks<W: Host>(rt: &W, alloc: Global) -> Option<bool> {
     let (radio_port, port) = two_free_ports(rt)?;
     let frame = authentication(0xaa);
     let questions = [Question::new(radio_port, &frame, &AUTHENTICATED, 1)];
-    let named = named_core(alloc, started_core(alloc));
+    let core = started_core(alloc);
     let radio = radio_with(rt, alloc, radio_port, Short { times: 260 });
     let crew = crew_with(rt, alloc, radio, port);
-    Some(share_and_ask::<Brand, Change, _, _>(rt, alloc, named, crew, &questions))
+    let blank = Blank::new(65_536);
+    Some(share_and_ask::<Brand, _, _>(rt, alloc, blank, core, crew, &questions))
 }
 
 #[test]
@@ -323,10 +331,11 @@ fn answers_before_a_trail<W: Host>(rt: &W, alloc: Global, trail: Trail) -> Optio
         one,
         Question::new(radio_port, &frame, &AUTHENTICATED, 150),
     ];
-    let named = named_core(alloc, started_core(alloc));
+    let core = started_core(alloc);
     let radio = radio_with(rt, alloc, radio_port, Trailed::new(alloc, trail));
     let crew = crew_with(rt, alloc, radio, port);
-    Some(share_and_ask::<Brand, Change, _, _>(rt, alloc, named, crew, &questions))
+    let blank = Blank::new(65_536);
+    Some(share_and_ask::<Brand, _, _>(rt, alloc, blank, core, crew, &questions))
 }
 
 #[test]
@@ -352,10 +361,11 @@ fn answers_before_a_sleep<W: Host>(rt: &W, alloc: Global) -> Option<bool> {
     let (radio_port, port) = two_free_ports(rt)?;
     let frame = authentication(0xaa);
     let questions = [Question::new(radio_port, &frame, &AUTHENTICATED, 1); 3];
-    let named = named_core(alloc, started_core(alloc));
+    let core = started_core(alloc);
     let radio = radio_with(rt, alloc, radio_port, Resting::new(rt));
     let crew = crew_with(rt, alloc, radio, port);
-    Some(share_and_ask::<Brand, Change, _, _>(rt, alloc, named, crew, &questions))
+    let blank = Blank::new(65_536);
+    Some(share_and_ask::<Brand, _, _>(rt, alloc, blank, core, crew, &questions))
 }
 
 #[test]

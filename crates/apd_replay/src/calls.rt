@@ -2,9 +2,12 @@
 use apd_base::{Bssid, Moment};
 use apd_conf::Confs;
 use apd_core::Core;
-use apd_desk::{Clock, Gate, Owner, Port, Seat, Shared, commit_all, control_worker, mend_first, radio_worker, tend, tick_worker, Entry, Naming};
+use apd_desk::{
+    Clock, Gate, Port, Seat, Shared, commit_all, control_worker, mend_first, radio_worker, tend,
+    tick_worker,
+};
 use apd_disk::{Disk, MemDisk};
-use apd_flusher::Flusher;
+use apd_flusher::{Committer, Flusher};
 use apd_radio::Radio;
 use apd_slot::{Mending, Slot};
 use apd_store::{format, recover};
@@ -13,6 +16,7 @@ use apd_world::{Commit, Step, Told, World, drive, restart};
 use std::alloc::Global;
 use std::net::Net;
 use std::sync::Wait;
+use std::sync::ledger::Ledger;
 use std::time;
 
 /// A device of a new store.
@@ -92,60 +96,59 @@ pub(crate) fn tend_slot<R: Radio>(slot: &mut Slot<R>, mending: &mut Mending<R>) 
 }
 
 /// Hands to a slot what is settled. Tells whether memory was there.
-pub(crate) fn hand_to_slot<L: Naming, E: Entry, W: Wait, R: Radio>(
+pub(crate) fn hand_to_slot<L: Ledger, W: Wait, R: Radio>(
     rt: &W,
-    shared: &Shared<L, E>,
-    seat: &mut Seat<L, E>,
+    shared: &Shared<L>,
+    seat: &mut Seat<L>,
     slot: &mut Slot<R>,
 ) -> bool {
     shared.hand_to(rt, seat, slot).is_ok()
 }
 
 /// Commits until a stop or a fault.
-pub(crate) fn commit<L: Naming, E: Entry, W: Wait + time::Clock, D: Disk, G: Gate>(
+pub(crate) fn commit<L: Ledger, W: Wait + time::Clock, D: Disk, G: Gate>(
     rt: &W,
-    shared: &Shared<L, E>,
-    owner: Owner<L, E, D>,
+    shared: &Shared<L>,
+    committer: &mut Committer<D>,
     gate: &G,
-) -> Owner<L, E, D> {
-    let (owner, _ending) = commit_all(rt, shared, owner, gate);
-    owner
+) {
+    let _ending = commit_all(rt, shared, committer, gate);
 }
 
 /// Serves a radio until a stop.
-pub(crate) fn serve_radio<L: Naming, E: Entry, W: Wait + time::Clock + Net, R: Radio, C: Clock, G: Gate>(
+pub(crate) fn serve_radio<L: Ledger, W: Wait + time::Clock + Net, R: Radio, C: Clock, G: Gate>(
     rt: &W,
     alloc: Global,
-    shared: &Shared<L, E>,
-    seat: Seat<L, E>,
+    shared: &Shared<L>,
+    seat: Seat<L>,
     slot: Slot<R>,
     clock: &C,
     spares: Vec<R>,
     gate: &G,
-) -> (Seat<L, E>, Slot<R>) {
+) -> (Seat<L>, Slot<R>) {
     radio_worker(rt, alloc, shared, seat, slot, clock, spares, gate)
 }
 
 /// Serves a port until a stop.
-pub(crate) fn serve_port<L: Naming, E: Entry, W: Wait + time::Clock + Net, P: Port, C: Clock, G: Gate>(
+pub(crate) fn serve_port<L: Ledger, W: Wait + time::Clock + Net, P: Port, C: Clock, G: Gate>(
     rt: &W,
     alloc: Global,
-    shared: &Shared<L, E>,
-    seat: Seat<L, E>,
+    shared: &Shared<L>,
+    seat: Seat<L>,
     port: P,
     clock: &C,
     gate: &G,
-) -> (Seat<L, E>, P) {
+) -> (Seat<L>, P) {
     control_worker(rt, alloc, shared, seat, port, clock, gate)
 }
 
 /// Submits ticks until a stop.
-pub(crate) fn submit_ticks<L: Naming, E: Entry, W: Wait + time::Clock, C: Clock, G: Gate>(
+pub(crate) fn submit_ticks<L: Ledger, W: Wait + time::Clock, C: Clock, G: Gate>(
     rt: &W,
-    shared: &Shared<L, E>,
-    seat: Seat<L, E>,
+    shared: &Shared<L>,
+    seat: Seat<L>,
     clock: &C,
     gate: &G,
-) -> Seat<L, E> {
+) -> Seat<L> {
     tick_worker(rt, shared, seat, clock, gate)
 }

@@ -6,13 +6,15 @@ use crate::frames::{FIRST_STATION, STATIONS};
 use crate::gate::NotedGate;
 use crate::plan::station;
 use crate::working::{PortPart, RadioPart, Worker};
-use apd_desk::{Owner, Port, Seat, Shared, Entry, Naming};
+use apd_desk::{Port, Seat, Shared};
 use apd_disk::MemDisk;
+use apd_flusher::Committer;
 use apd_mlme::{Out, Recipient};
 use apd_radio::Radio;
 use apd_slot::{Mending, Slot};
 use std::alloc::{AllocError, Global};
 use std::sync::Wait;
+use std::sync::ledger::Ledger;
 use std::time::Clock;
 
 /// How often what waits at a slot is looked at, at most.
@@ -41,15 +43,15 @@ pub(crate) struct SlotEnd {
 
 /// What a run leaves.
 #[derive(Drop)]
-pub(crate) struct Left<L: Naming, E: Entry> {
-    pub(crate) seats: Vec<Seat<L, E>>,
+pub(crate) struct Left<L: Ledger> {
+    pub(crate) seats: Vec<Seat<L>>,
     pub(crate) slots: Vec<SlotEnd>,
     pub(crate) disk: Option<MemDisk>,
 }
 
-impl<L: Naming, E: Entry> Left<L, E> {
+impl<L: Ledger> Left<L> {
     /// Nothing yet.
-    pub(crate) fn new(alloc: Global) -> Left<L, E> {
+    pub(crate) fn new(alloc: Global) -> Left<L> {
         Left {
             seats: Vec::new(alloc),
             slots: Vec::new(alloc),
@@ -57,18 +59,18 @@ impl<L: Naming, E: Entry> Left<L, E> {
         }
     }
 
-    fn add_seat(&mut self, seat: Seat<L, E>) -> Result<(), AllocError> {
+    fn add_seat(&mut self, seat: Seat<L>) -> Result<(), AllocError> {
         Ok(self.seats.push(seat)?)
     }
 
     // Adds a slot, and the seat of its worker.
-    fn add_slot(&mut self, end: SlotEnd, seat: Seat<L, E>) -> Result<(), AllocError> {
+    fn add_slot(&mut self, end: SlotEnd, seat: Seat<L>) -> Result<(), AllocError> {
         self.slots.push(end)?;
         self.add_seat(seat)
     }
 
     // Adds the seats of the worker of the port: its own, and the port's.
-    fn add_both(&mut self, own: Seat<L, E>, of_port: Seat<L, E>) -> Result<(), AllocError> {
+    fn add_both(&mut self, own: Seat<L>, of_port: Seat<L>) -> Result<(), AllocError> {
         self.add_seat(own)?;
         self.add_seat(of_port)
     }
@@ -95,11 +97,11 @@ fn empty<R: Radio>(slot: &mut Slot<R>, mending: &mut Mending<R>) {
 }
 
 // Hands out once more what was settled.
-fn hand_out<L: Naming, E: Entry, W: Wait, R: Radio>(
+fn hand_out<L: Ledger, W: Wait, R: Radio>(
     rt: &W,
     alloc: Global,
-    shared: &Shared<L, E>,
-    seat: &mut Seat<L, E>,
+    shared: &Shared<L>,
+    seat: &mut Seat<L>,
     slot: &mut Slot<R>,
 ) {
     let mut mending = Mending::new(Vec::new(alloc));
@@ -110,10 +112,10 @@ fn hand_out<L: Naming, E: Entry, W: Wait, R: Radio>(
 }
 
 // How far the worker of a radio had come, whose log had so many notes.
-fn mark_of<L: Naming, E: Entry, W: Wait, R: Radio>(
+fn mark_of<L: Ledger, W: Wait, R: Radio>(
     rt: &W,
-    shared: &Shared<L, E>,
-    seat: &Seat<L, E>,
+    shared: &Shared<L>,
+    seat: &Seat<L>,
     slot: &Slot<R>,
     notes: usize,
 ) -> Mark {
@@ -126,11 +128,11 @@ fn mark_of<L: Naming, E: Entry, W: Wait, R: Radio>(
 }
 
 // Hands out to a slot, and tells what becomes of it.
-fn slot_end<L: Naming, E: Entry, W: Wait, R: Radio>(
+fn slot_end<L: Ledger, W: Wait, R: Radio>(
     rt: &W,
     alloc: Global,
-    shared: &Shared<L, E>,
-    seat: &mut Seat<L, E>,
+    shared: &Shared<L>,
+    seat: &mut Seat<L>,
     slot: Slot<R>,
     notes: usize,
 ) -> Result<SlotEnd, AllocError> {
@@ -147,12 +149,12 @@ fn slot_end<L: Naming, E: Entry, W: Wait, R: Radio>(
     })
 }
 
-fn radio_end<L: Naming, E: Entry, W: Wait>(
+fn radio_end<L: Ledger, W: Wait>(
     rt: &W,
     alloc: Global,
-    shared: &Shared<L, E>,
-    part: RadioPart<'_, L, E, W>,
-    left: &mut Left<L, E>,
+    shared: &Shared<L>,
+    part: RadioPart<'_, L, W>,
+    left: &mut Left<L>,
 ) -> Result<(), AllocError> {
     let RadioPart {
         mut seat,
@@ -183,10 +185,10 @@ fn reply_all<P: Port>(port: &mut P, outs: &[Out]) {
 }
 
 // Replies what was settled.
-fn reply_settled<L: Naming, E: Entry, W: Wait, P: Port>(
+fn reply_settled<L: Ledger, W: Wait, P: Port>(
     rt: &W,
-    shared: &Shared<L, E>,
-    seat: &mut Seat<L, E>,
+    shared: &Shared<L>,
+    seat: &mut Seat<L>,
     port: &mut P,
 ) -> Result<(), AllocError> {
     let outs = shared.collect(rt, seat, Recipient::Control)?;
@@ -194,11 +196,11 @@ fn reply_settled<L: Naming, E: Entry, W: Wait, P: Port>(
     Ok(())
 }
 
-fn control_end<L: Naming, E: Entry, W: Wait>(
+fn control_end<L: Ledger, W: Wait>(
     rt: &W,
-    shared: &Shared<L, E>,
-    part: PortPart<'_, L, E, W>,
-    left: &mut Left<L, E>,
+    shared: &Shared<L>,
+    part: PortPart<'_, L, W>,
+    left: &mut Left<L>,
 ) -> Result<(), AllocError> {
     let PortPart {
         mut seat,
@@ -219,31 +221,32 @@ fn control_end<L: Naming, E: Entry, W: Wait>(
 }
 
 // What the device of the worker that commits holds, once what waits is committed.
-fn commit_end<L: Naming, E: Entry, W: Wait + Clock>(
+fn commit_end<L: Ledger, W: Wait + Clock>(
     rt: &W,
-    shared: &Shared<L, E>,
-    owner: Owner<L, E, Device<'_, W>>,
-    gate: NotedGate<'_, L, E, W>,
+    shared: &Shared<L>,
+    committer: Committer<Device<'_, W>>,
+    gate: NotedGate<'_, L, W>,
 ) -> MemDisk {
-    let owner = commit(rt, shared, owner, &gate);
+    let mut committer = committer;
+    commit(rt, shared, &mut committer, &gate);
     drop(gate);
-    let (flusher, batch, receipt) = owner.into_committer().into_parts();
+    let (flusher, batch, receipt) = committer.into_parts();
     drop(batch);
     drop(receipt);
     disk_of(flusher.into_device())
 }
 
 /// What a worker leaves: what waits is committed, or handed out once more.
-fn end<L: Naming, E: Entry, W: Wait + Clock>(
+fn end<L: Ledger, W: Wait + Clock>(
     rt: &W,
     alloc: Global,
-    shared: &Shared<L, E>,
-    worker: Worker<'_, L, E, W>,
-    left: &mut Left<L, E>,
+    shared: &Shared<L>,
+    worker: Worker<'_, L, W>,
+    left: &mut Left<L>,
 ) -> Result<(), AllocError> {
     match worker {
-        Worker::Committing(owner, gate) => {
-            left.disk = Some(commit_end(rt, shared, owner, gate));
+        Worker::Committing(committer, gate) => {
+            left.disk = Some(commit_end(rt, shared, committer, gate));
             Ok(())
         }
         Worker::Radio(part) => radio_end(rt, alloc, shared, part, left),
@@ -257,12 +260,12 @@ fn end<L: Naming, E: Entry, W: Wait + Clock>(
 }
 
 // Adds what the workers leave.
-fn end_each<L: Naming, E: Entry, W: Wait + Clock>(
+fn end_each<L: Ledger, W: Wait + Clock>(
     rt: &W,
     alloc: Global,
-    shared: &Shared<L, E>,
-    workers: Vec<Worker<'_, L, E, W>>,
-    left: &mut Left<L, E>,
+    shared: &Shared<L>,
+    workers: Vec<Worker<'_, L, W>>,
+    left: &mut Left<L>,
 ) -> Result<(), AllocError> {
     for worker in workers {
         end(rt, alloc, shared, worker, left)?;
@@ -271,12 +274,12 @@ fn end_each<L: Naming, E: Entry, W: Wait + Clock>(
 }
 
 /// What the workers leave, in order: the first of them commits.
-pub(crate) fn end_all<L: Naming, E: Entry, W: Wait + Clock>(
+pub(crate) fn end_all<L: Ledger, W: Wait + Clock>(
     rt: &W,
     alloc: Global,
-    shared: &Shared<L, E>,
-    workers: Vec<Worker<'_, L, E, W>>,
-) -> Result<Left<L, E>, Fault> {
+    shared: &Shared<L>,
+    workers: Vec<Worker<'_, L, W>>,
+) -> Result<Left<L>, Fault> {
     let mut left = Left::new(alloc);
     match end_each(rt, alloc, shared, workers, &mut left) {
         Ok(()) => Ok(left),

@@ -15,8 +15,6 @@ pub(crate) enum Fault {
     NoThread,
     #[error("a seat is lacking")]
     NoSeat,
-    #[error("the right to commit is lacking")]
-    NoRight,
     #[error("the radio at place {0} gave a frame out of order")]
     FrameOrder(usize),
     #[error("the worker at place {0} accepted something that it was not given")]

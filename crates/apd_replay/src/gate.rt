@@ -3,9 +3,10 @@ use crate::generator::Shaker;
 use crate::notes::{Lane, Note};
 use crate::stage::Stage;
 use apd_base::Moment;
-use apd_desk::{Clock, Gate, Place, Shared, Entry, Naming};
+use apd_desk::{Clock, Gate, Place, Shared};
 use std::sync::Wait;
 use std::sync::atomic::{AtomicU64, Ordering};
+use std::sync::ledger::Ledger;
 use std::thread::yield_now;
 
 /// How often a tick looks whether its turn has come, each time with a yield.
@@ -13,16 +14,16 @@ const LOOKS: u64 = 20_000;
 
 /// Notes the numbers of entries, and tells all to stop at one of them.
 #[derive(Drop)]
-pub(crate) struct NotedGate<'a, L: Naming, E: Entry, W: Wait> {
+pub(crate) struct NotedGate<'a, L: Ledger, W: Wait> {
     pub(crate) rt: &'a W,
-    pub(crate) shared: &'a Shared<L, E>,
+    pub(crate) shared: &'a Shared<L>,
     pub(crate) stage: &'a Stage,
     pub(crate) lane: &'a Lane,
     pub(crate) shaker: Shaker,
     pub(crate) stop_at: Option<u64>,
 }
 
-impl<L: Naming, E: Entry, W: Wait> NotedGate<'_, L, E, W> {
+impl<L: Ledger, W: Wait> NotedGate<'_, L, W> {
     fn accept(&self, number: u64) {
         self.lane.log.note(self.rt, Note::Accepted(number));
         if self.stop_at == Some(self.stage.accept(number)) {
@@ -31,7 +32,7 @@ impl<L: Naming, E: Entry, W: Wait> NotedGate<'_, L, E, W> {
     }
 }
 
-impl<L: Naming, E: Entry, W: Wait> Gate for NotedGate<'_, L, E, W> {
+impl<L: Ledger, W: Wait> Gate for NotedGate<'_, L, W> {
     fn pass(&self, at: Place) {
         match at {
             Place::Accepted(number) => self.accept(number),

@@ -6,9 +6,10 @@ use crate::notes::{Lane, Note, Seen};
 use crate::plan::{End, Plan, station};
 use crate::stage::Stage;
 use apd_ctrl::Query;
-use apd_desk::{Port, PortFault, Seat, Shared, Entry, Naming};
+use apd_desk::{Port, PortFault, Seat, Shared};
 use std::alloc::Global;
 use std::sync::Wait;
+use std::sync::ledger::Ledger;
 
 /// How often the port is polled at most, and how often once all was given.
 const POLLS: u64 = 40_000;
@@ -18,11 +19,11 @@ const LAST_POLLS: u64 = 300;
 /// Gives the commands of a plan, and tells all to stop when that says so. Before a command and before a reply its own
 /// seat asks what is settled.
 #[derive(Drop)]
-pub(crate) struct NotedPort<'a, L: Naming, E: Entry, W: Wait> {
+pub(crate) struct NotedPort<'a, L: Ledger, W: Wait> {
     pub(crate) rt: &'a W,
     pub(crate) alloc: Global,
-    pub(crate) shared: &'a Shared<L, E>,
-    pub(crate) seat: Seat<L, E>,
+    pub(crate) shared: &'a Shared<L>,
+    pub(crate) seat: Seat<L>,
     pub(crate) stage: &'a Stage,
     pub(crate) lane: &'a Lane,
     /// The logs of the radios, and others.
@@ -35,9 +36,9 @@ pub(crate) struct NotedPort<'a, L: Naming, E: Entry, W: Wait> {
     pub(crate) told: Option<u64>,
 }
 
-impl<L: Naming, E: Entry, W: Wait> NotedPort<'_, L, E, W> {
+impl<L: Ledger, W: Wait> NotedPort<'_, L, W> {
     /// The port's seat.
-    pub(crate) fn into_seat(self) -> Seat<L, E> {
+    pub(crate) fn into_seat(self) -> Seat<L> {
         let NotedPort { seat, .. } = self;
         seat
     }
@@ -140,7 +141,7 @@ impl<L: Naming, E: Entry, W: Wait> NotedPort<'_, L, E, W> {
     }
 }
 
-impl<L: Naming, E: Entry, W: Wait> Port for NotedPort<'_, L, E, W> {
+impl<L: Ledger, W: Wait> Port for NotedPort<'_, L, W> {
     fn poll(&mut self) -> Result<Option<(u64, Vec<u8>)>, PortFault> {
         self.shaker.shake();
         if self.count_poll() {

@@ -1,6 +1,5 @@
 //! A run: a world is started and taken apart, its workers work in threads, and what they leave is kept.
 ghost use Rattle.std.specs.Prelude.{◌≡◌};
-ghost use Rattle.apd_desk.specs.Naming.{AreNames};
 
 use crate::calls::{restart_world, start_world, take_apart};
 use crate::crew::work_all;
@@ -20,7 +19,7 @@ use crate::working::{Environment, Host, PortPart, RadioPart, Worker};
 use apd_base::{Addr, Bssid, Station};
 use apd_conf::Confs;
 use apd_core::Core;
-use apd_desk::{Names, Owner, Seat, Shared, Entry, Naming, Change};
+use apd_desk::{Seat, Shared};
 use apd_disk::{Disk, MemDisk};
 use apd_flusher::{Committer, Flusher};
 use apd_radio::{Radio, Sim};
@@ -31,6 +30,7 @@ use std::alloc::{AllocError, Global};
 use std::marker::Brand;
 use std::sync::Wait;
 use std::sync::atomic::AtomicU64;
+use std::sync::ledger::{Blank, Ledger};
 
 /// What is kept of a run, beside what its doubles noted.
 #[derive(Drop)]
@@ -182,13 +182,13 @@ pub(crate) fn world<D: Disk + Drop, R: Radio>(
 }
 
 // A gate of the worker of this log.
-fn gate<'a, L: Naming, E: Entry, W: Wait>(
+fn gate<'a, L: Ledger, W: Wait>(
     rt: &'a W,
-    shared: &'a Shared<L, E>,
+    shared: &'a Shared<L>,
     scene: Scene<'a>,
     lane: &'a Lane,
     seeds: &mut Generator,
-) -> NotedGate<'a, L, E, W> {
+) -> NotedGate<'a, L, W> {
     let stop_at = match scene.plan.end {
         End::AtEntry(entry) => Some(entry),
         End::AllGiven | End::AllSettled | End::AtPoll(_) => None,
@@ -217,20 +217,20 @@ fn clock<'a, W: Wait>(
     }
 }
 
-fn seat<L: Naming, E: Entry, W: Wait>(rt: &W, shared: &Shared<L, E>) -> Result<Seat<L, E>, Fault> {
+fn seat<L: Ledger, W: Wait>(rt: &W, shared: &Shared<L>) -> Result<Seat<L>, Fault> {
     shared.seat(rt).ok_or(Fault::NoSeat)
 }
 
 // The seat of the worker of a radio, and the radios that stand by.
-fn seat_and_spares<'a, L: Naming, E: Entry, W: Wait>(
+fn seat_and_spares<'a, L: Ledger, W: Wait>(
     rt: &'a W,
     alloc: Global,
-    shared: &Shared<L, E>,
+    shared: &Shared<L>,
     scene: Scene<'a>,
     radio: &'a RadioPlan,
     lane: &'a Lane,
     seeds: &mut Generator,
-) -> Result<(Seat<L, E>, Vec<NotedRadio<'a, W>>), Fault> {
+) -> Result<(Seat<L>, Vec<NotedRadio<'a, W>>), Fault> {
     let seat = seat(rt, shared)?;
     match spares(rt, alloc, scene.stage, radio, lane, seeds, false) {
         Ok(spares) => Ok((seat, spares)),
@@ -242,16 +242,16 @@ fn seat_and_spares<'a, L: Naming, E: Entry, W: Wait>(
 }
 
 // What the worker of a radio has.
-fn radio_part<'a, L: Naming, E: Entry, W: Wait>(
+fn radio_part<'a, L: Ledger, W: Wait>(
     rt: &'a W,
-    shared: &'a Shared<L, E>,
+    shared: &'a Shared<L>,
     scene: Scene<'a>,
     lane: &'a Lane,
-    seat: Seat<L, E>,
+    seat: Seat<L>,
     slot: Slot<NotedRadio<'a, W>>,
     spares: Vec<NotedRadio<'a, W>>,
     seeds: &mut Generator,
-) -> RadioPart<'a, L, E, W> {
+) -> RadioPart<'a, L, W> {
     RadioPart {
         seat,
         slot,
@@ -262,7 +262,7 @@ fn radio_part<'a, L: Naming, E: Entry, W: Wait>(
 }
 
 // The seats of the worker of the port: its own, and the port's.
-fn both_seats<L: Naming, E: Entry, W: Wait>(rt: &W, shared: &Shared<L, E>) -> Result<(Seat<L, E>, Seat<L, E>), Fault> {
+fn both_seats<L: Ledger, W: Wait>(rt: &W, shared: &Shared<L>) -> Result<(Seat<L>, Seat<L>), Fault> {
     let of_port = seat(rt, shared)?;
     match seat(rt, shared) {
         Ok(own) => Ok((own, of_port)),
@@ -274,14 +274,14 @@ fn both_seats<L: Naming, E: Entry, W: Wait>(rt: &W, shared: &Shared<L, E>) -> Re
 }
 
 // What the worker of the port has.
-fn control_part<'a, L: Naming, E: Entry, W: Wait>(
+fn control_part<'a, L: Ledger, W: Wait>(
     rt: &'a W,
     alloc: Global,
-    shared: &'a Shared<L, E>,
+    shared: &'a Shared<L>,
     scene: Scene<'a>,
     lane: &'a Lane,
     seeds: &mut Generator,
-) -> Result<PortPart<'a, L, E, W>, Fault> {
+) -> Result<PortPart<'a, L, W>, Fault> {
     let (seat, of_port) = both_seats(rt, shared)?;
     let port = NotedPort {
         rt,
@@ -323,46 +323,41 @@ fn tick_clock<'a, W: Wait>(
 }
 
 // Adds a worker behind the others.
-fn add_worker<'a, L: Naming, E: Entry, W: Wait>(
-    workers: &mut Vec<Worker<'a, L, E, W>>,
-    worker: Worker<'a, L, E, W>,
+fn add_worker<'a, L: Ledger, W: Wait>(
+    workers: &mut Vec<Worker<'a, L, W>>,
+    worker: Worker<'a, L, W>,
 ) -> Result<(), Fault> {
     Ok(workers.push(worker)?)
 }
 
 // Adds the worker that commits.
-fn add_committing<'a, L: Naming, E: Entry, W: Wait>(
+fn add_committing<'a, L: Ledger, W: Wait>(
     rt: &'a W,
-    shared: &'a Shared<L, E>,
+    shared: &'a Shared<L>,
     scene: Scene<'a>,
     flusher: Flusher<Device<'a, W>>,
     seeds: &mut Generator,
-    workers: &mut Vec<Worker<'a, L, E, W>>,
+    workers: &mut Vec<Worker<'a, L, W>>,
 ) -> Result<(), Fault> {
     let Some(lane) = scene.lanes.last() else {
         drop(flusher);
         return Err(Fault::NoThread);
     };
-    let Some(right) = shared.commit_right(rt) else {
-        drop(flusher);
-        return Err(Fault::NoRight);
-    };
-    let owner = Owner::new(Committer::new(flusher), right);
     let gate = gate(rt, shared, scene, lane, seeds);
-    add_worker(workers, Worker::Committing(owner, gate))
+    add_worker(workers, Worker::Committing(Committer::new(flusher), gate))
 }
 
 // Adds the worker of a radio.
-fn add_radio<'a, L: Naming, E: Entry, W: Wait>(
+fn add_radio<'a, L: Ledger, W: Wait>(
     rt: &'a W,
     alloc: Global,
-    shared: &'a Shared<L, E>,
+    shared: &'a Shared<L>,
     scene: Scene<'a>,
     radio: &'a RadioPlan,
     lane: &'a Lane,
     slot: Slot<NotedRadio<'a, W>>,
     seeds: &mut Generator,
-    workers: &mut Vec<Worker<'a, L, E, W>>,
+    workers: &mut Vec<Worker<'a, L, W>>,
 ) -> Result<(), Fault> {
     shared.note(rt, slot.bssid(), slot.is_up());
     match seat_and_spares(rt, alloc, shared, scene, radio, lane, seeds) {
@@ -378,14 +373,14 @@ fn add_radio<'a, L: Naming, E: Entry, W: Wait>(
 }
 
 // Adds the workers of the radios.
-fn add_radios<'a, L: Naming, E: Entry, W: Wait>(
+fn add_radios<'a, L: Ledger, W: Wait>(
     rt: &'a W,
     alloc: Global,
-    shared: &'a Shared<L, E>,
+    shared: &'a Shared<L>,
     scene: Scene<'a>,
     slots: Vec<Slot<NotedRadio<'a, W>>>,
     seeds: &mut Generator,
-    workers: &mut Vec<Worker<'a, L, E, W>>,
+    workers: &mut Vec<Worker<'a, L, W>>,
 ) -> Result<(), Fault> {
     let places = scene.plan.radios.iter().zip(scene.lanes);
     for (slot, (radio, lane)) in slots.into_iter().zip(places) {
@@ -395,13 +390,13 @@ fn add_radios<'a, L: Naming, E: Entry, W: Wait>(
 }
 
 // Adds the workers of the port and of ticks.
-fn add_others<'a, L: Naming, E: Entry, W: Wait>(
+fn add_others<'a, L: Ledger, W: Wait>(
     rt: &'a W,
     alloc: Global,
-    shared: &'a Shared<L, E>,
+    shared: &'a Shared<L>,
     scene: Scene<'a>,
     seeds: &mut Generator,
-    workers: &mut Vec<Worker<'a, L, E, W>>,
+    workers: &mut Vec<Worker<'a, L, W>>,
 ) -> Result<(), Fault> {
     let mut lanes = scene.lanes.iter().skip(scene.plan.radios.len());
     let lane = lanes.next().ok_or(Fault::NoThread)?;
@@ -415,15 +410,15 @@ fn add_others<'a, L: Naming, E: Entry, W: Wait>(
 }
 
 // Adds the workers: the first one commits.
-fn add_all<'a, L: Naming, E: Entry, W: Wait>(
+fn add_all<'a, L: Ledger, W: Wait>(
     rt: &'a W,
     alloc: Global,
-    shared: &'a Shared<L, E>,
+    shared: &'a Shared<L>,
     scene: Scene<'a>,
     flusher: Flusher<Device<'a, W>>,
     slots: Vec<Slot<NotedRadio<'a, W>>>,
     seeds: &mut Generator,
-    workers: &mut Vec<Worker<'a, L, E, W>>,
+    workers: &mut Vec<Worker<'a, L, W>>,
 ) -> Result<(), Fault> {
     if let Err(fault) = add_committing(rt, shared, scene, flusher, seeds, workers) {
         drop(slots);
@@ -434,15 +429,15 @@ fn add_all<'a, L: Naming, E: Entry, W: Wait>(
 }
 
 // The workers: the first one commits.
-fn crew<'a, L: Naming, E: Entry, W: Wait>(
+fn crew<'a, L: Ledger, W: Wait>(
     rt: &'a W,
     alloc: Global,
-    shared: &'a Shared<L, E>,
+    shared: &'a Shared<L>,
     scene: Scene<'a>,
     flusher: Flusher<Device<'a, W>>,
     slots: Vec<Slot<NotedRadio<'a, W>>>,
     seeds: &mut Generator,
-) -> Result<Vec<Worker<'a, L, E, W>>, Fault> {
+) -> Result<Vec<Worker<'a, L, W>>, Fault> {
     let mut workers = Vec::new(alloc);
     let added = add_all(
         rt,
@@ -464,15 +459,15 @@ fn crew<'a, L: Naming, E: Entry, W: Wait>(
 }
 
 // The threads work until a stop, and what they leave is committed and handed out.
-fn work<'a, L: Naming + Send + Sync, E: Entry + Send + Sync, W: Host>(
+fn work<'a, L: Ledger + Send + Sync, W: Host>(
     rt: &'a W,
     alloc: Global,
-    shared: &'a Shared<L, E>,
+    shared: &'a Shared<L>,
     scene: Scene<'a>,
     flusher: Flusher<Device<'a, W>>,
     slots: Vec<Slot<NotedRadio<'a, W>>>,
     seeds: &mut Generator,
-) -> Result<Left<L, E>, Fault> {
+) -> Result<Left<L>, Fault> {
     let workers = crew(rt, alloc, shared, scene, flusher, slots, seeds)?;
     let environment = Environment { rt, alloc, shared };
     match work_all(rt, alloc, &environment, workers) {
@@ -558,12 +553,13 @@ fn with_disk(
     }
 }
 
-fn close<L: Naming, E: Entry>(
+fn close<L: Ledger>(
     alloc: Global,
     begin: u64,
-    shared: Shared<L, E>,
-    left: Left<L, E>,
+    shared: Shared<L>,
+    left: Left<L>,
 ) -> Result<(Record, Option<MemDisk>), Fault>
+    requires { L.parts ≡ 65536 }
 {
     let Left { seats, slots, disk } = left;
     match shared.close(seats) {
@@ -581,22 +577,22 @@ fn close<L: Naming, E: Entry>(
     }
 }
 
-// As `run`, over one history.
-fn run_over_history<'a, L: Naming + Send + Sync, E: Entry + Send + Sync, W: Host>(
+// As `run`, over one ledger.
+fn run_over_ledger<'a, L: Ledger + Send + Sync, W: Host>(
     rt: &'a W,
     alloc: Global,
-    core: Core,
-    names: Names<E>,
+    blank: Blank,
     scene: Scene<'a>,
-    flusher: Flusher<Device<'a, W>>,
-    slots: Vec<Slot<NotedRadio<'a, W>>>,
+    world: World<Device<'a, W>, NotedRadio<'a, W>>,
     seeds: &mut Generator,
 ) -> Result<(Record, Option<MemDisk>), Fault>
-    requires names { AreNames L.seats L.table L.commits names }
-    requires first { core ≡ L.first }
+    requires name { blank.name ≡ L.name }
+    requires parts { blank.parts ≡ L.parts }
+    requires all { blank.parts ≡ 65536 }
 {
+    let (flusher, core, slots) = take_apart(world);
     let begin = core.number();
-    let shared = Shared::<L, E>::new(core, names);
+    let shared = Shared::<L>::new(core, blank);
     match work(rt, alloc, &shared, scene, flusher, slots, seeds) {
         Ok(left) => close(alloc, begin, shared, left),
         Err(fault) => {
@@ -636,16 +632,5 @@ pub(crate) fn run<W: Host>(
 ) -> Result<(Record, Option<MemDisk>), Fault> {
     let mut seeds = Generator::new(scene.plan.seed.wrapping_add(1));
     let world = run_world(rt, alloc, scene, image, &mut seeds)?;
-    let (flusher, core, slots) = take_apart(world);
-    match Names::new(alloc) {
-        Ok(names) => run_over_history::<Brand, Change, W>(
-            rt, alloc, core, names, scene, flusher, slots, &mut seeds,
-        ),
-        Err(error) => {
-            drop(flusher);
-            drop(core);
-            drop(slots);
-            Err(error.into())
-        }
-    }
+    run_over_ledger::<Brand, W>(rt, alloc, Blank::new(65_536), scene, world, &mut seeds)
 }

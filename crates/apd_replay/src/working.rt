@@ -5,11 +5,13 @@ use crate::device::Device;
 use crate::gate::{NotedClock, NotedGate, TickClock};
 use crate::port::NotedPort;
 use crate::radio::NotedRadio;
-use apd_desk::{Owner, Seat, Shared, Entry, Naming};
+use apd_desk::{Seat, Shared};
+use apd_flusher::Committer;
 use apd_slot::Slot;
 use std::alloc::Global;
 use std::net::Net;
 use std::sync::Wait;
+use std::sync::ledger::Ledger;
 use std::thread::Threads;
 use std::time;
 
@@ -25,13 +27,13 @@ impl<T: Threads + Wait + time::Clock + Net<Stream: Send + Sync, Listener: Send +
 
 /// What the workers share.
 #[derive(Drop)]
-pub(crate) struct Environment<'a, L: Naming, E: Entry, W> {
+pub(crate) struct Environment<'a, L: Ledger, W> {
     pub(crate) rt: &'a W,
     pub(crate) alloc: Global,
-    pub(crate) shared: &'a Shared<L, E>,
+    pub(crate) shared: &'a Shared<L>,
 }
 
-impl<L: Naming, E: Entry, W: Wait> Stops for Environment<'_, L, E, W> {
+impl<L: Ledger, W: Wait> Stops for Environment<'_, L, W> {
     fn stop(&self) {
         self.shared.stop(self.rt);
     }
@@ -39,34 +41,34 @@ impl<L: Naming, E: Entry, W: Wait> Stops for Environment<'_, L, E, W> {
 
 /// The worker of a radio: its seat, its slot, the radios that stand by, and by what it is seen.
 #[derive(Drop)]
-pub(crate) struct RadioPart<'a, L: Naming, E: Entry, W: Wait> {
-    pub(crate) seat: Seat<L, E>,
+pub(crate) struct RadioPart<'a, L: Ledger, W: Wait> {
+    pub(crate) seat: Seat<L>,
     pub(crate) slot: Slot<NotedRadio<'a, W>>,
     pub(crate) spares: Vec<NotedRadio<'a, W>>,
     pub(crate) clock: NotedClock<'a, W>,
-    pub(crate) gate: NotedGate<'a, L, E, W>,
+    pub(crate) gate: NotedGate<'a, L, W>,
 }
 
 /// The worker of the port: its seat, the port, and by what it is seen.
 #[derive(Drop)]
-pub(crate) struct PortPart<'a, L: Naming, E: Entry, W: Wait> {
-    pub(crate) seat: Seat<L, E>,
-    pub(crate) port: NotedPort<'a, L, E, W>,
+pub(crate) struct PortPart<'a, L: Ledger, W: Wait> {
+    pub(crate) seat: Seat<L>,
+    pub(crate) port: NotedPort<'a, L, W>,
     pub(crate) clock: NotedClock<'a, W>,
-    pub(crate) gate: NotedGate<'a, L, E, W>,
+    pub(crate) gate: NotedGate<'a, L, W>,
 }
 
 /// A worker, by what it owns.
 #[derive(Drop)]
-pub(crate) enum Worker<'a, L: Naming, E: Entry, W: Wait> {
-    Committing(Owner<L, E, Device<'a, W>>, NotedGate<'a, L, E, W>),
-    Radio(RadioPart<'a, L, E, W>),
-    Control(PortPart<'a, L, E, W>),
-    Ticks(Seat<L, E>, TickClock<'a, W>, NotedGate<'a, L, E, W>),
+pub(crate) enum Worker<'a, L: Ledger, W: Wait> {
+    Committing(Committer<Device<'a, W>>, NotedGate<'a, L, W>),
+    Radio(RadioPart<'a, L, W>),
+    Control(PortPart<'a, L, W>),
+    Ticks(Seat<L>, TickClock<'a, W>, NotedGate<'a, L, W>),
 }
 
-impl<'a, L: Naming, E: Entry, W: Wait + time::Clock + Net> RadioPart<'a, L, E, W> {
-    fn work(self, environment: &Environment<'_, L, E, W>) -> RadioPart<'a, L, E, W> {
+impl<'a, L: Ledger, W: Wait + time::Clock + Net> RadioPart<'a, L, W> {
+    fn work(self, environment: &Environment<'_, L, W>) -> RadioPart<'a, L, W> {
         let RadioPart {
             seat,
             slot,
@@ -86,8 +88,8 @@ impl<'a, L: Naming, E: Entry, W: Wait + time::Clock + Net> RadioPart<'a, L, E, W
     }
 }
 
-impl<'a, L: Naming, E: Entry, W: Wait + time::Clock + Net> PortPart<'a, L, E, W> {
-    fn work(self, environment: &Environment<'_, L, E, W>) -> PortPart<'a, L, E, W> {
+impl<'a, L: Ledger, W: Wait + time::Clock + Net> PortPart<'a, L, W> {
+    fn work(self, environment: &Environment<'_, L, W>) -> PortPart<'a, L, W> {
         let PortPart {
             seat,
             port,
@@ -105,14 +107,14 @@ impl<'a, L: Naming, E: Entry, W: Wait + time::Clock + Net> PortPart<'a, L, E, W>
     }
 }
 
-impl<'e, 'a, L: Naming, E: Entry, W: Wait + time::Clock + Net> Job<Environment<'e, L, E, W>>
-    for Worker<'a, L, E, W> {
-    fn work(self, environment: &Environment<'e, L, E, W>) -> Worker<'a, L, E, W> {
+impl<'e, 'a, L: Ledger, W: Wait + time::Clock + Net> Job<Environment<'e, L, W>>
+    for Worker<'a, L, W> {
+    fn work(self, environment: &Environment<'e, L, W>) -> Worker<'a, L, W> {
         let Environment { rt, shared, .. } = environment;
         match self {
-            Worker::Committing(owner, gate) => {
-                let owner = commit(*rt, *shared, owner, &gate);
-                Worker::Committing(owner, gate)
+            Worker::Committing(mut committer, gate) => {
+                commit(*rt, *shared, &mut committer, &gate);
+                Worker::Committing(committer, gate)
             }
             Worker::Radio(part) => Worker::Radio(part.work(environment)),
             Worker::Control(part) => Worker::Control(part.work(environment)),

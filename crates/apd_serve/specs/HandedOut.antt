@@ -1,7 +1,5 @@
 -- What is handed to a slot by a seat (own).
 use Rattle.std.specs.Prelude.{ℕ, List, Option}
-use Rattle.apd_core.specs.Core.{CoreState}
-use Rattle.apd_history.specs.declared.entry.Entry as entry
 use Rattle.apd_radio.specs.Model.{RadioModel}
 use Rattle.apd_slot.specs.declared.mending.Mending.{Mending}
 use Rattle.apd_slot.specs.declared.slot.Slot.{Slot}
@@ -10,7 +8,6 @@ use Rattle.apd_desk.specs.Asking.{by_seat}
 use Rattle.apd_desk.specs.declared.seat.Seat.{Seat}
 
 -- steps lead there that leave the mending, whatever it is
-abbrev pub IsHandedBy : {L E R : Type 0} {e : entry.Ghosts E} → CoreState → RadioModel R → (R → Option (List (List ℕ))) → Seat L E e
-    → Seat L E e → Slot R → Slot R → Type 0
-IsHandedBy {R = R} first radio frames seat later old new =
-    (mending : Mending R) → IsRadioRun radio frames (by_seat first) seat later old new mending mending
+abbrev pub IsHandedBy : {L R : Type 0} → RadioModel R → (R → Option (List (List ℕ))) → Seat L → Seat L → Slot R → Slot R → Type 0
+IsHandedBy {R = R} radio frames seat later old new =
+    (mending : Mending R) → IsRadioRun radio frames by_seat seat later old new mending mending

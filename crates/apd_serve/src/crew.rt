@@ -1,18 +1,17 @@
 //! A crew: the workers round one core, from the first to the last.
 ghost use Rattle.std.specs.Prelude.{◌≡◌, ◌+◌, [], IfOk, OnOk};
 ghost use Rattle.apd_desk.specs.Counted.{entries_of_seats};
-ghost use Rattle.apd_desk.specs.Naming.{AreNames};
 ghost use Rattle.apd_serve.specs.Entries.{entries_of_all, entries_of_seat};
 
 use crate::environment::{Desk, Environment};
 use crate::fault::ServeFault;
 use crate::host::Host;
+use crate::started::StartedWorld;
 use crate::threads::work_until_end;
 use crate::worker::Worker;
-use apd_core::Core;
-use apd_desk::{Clock, Entry, Gate, Names, Naming, Owner, Port, Seat, Shared};
+use apd_desk::{Clock, Gate, Port, SEATS, Seat, Shared};
 use apd_disk::Disk;
-use apd_flusher::{Committer, Flusher};
+use apd_flusher::Committer;
 use apd_radio::Radio;
 use apd_slot::Slot;
 use log::Log;
@@ -20,37 +19,38 @@ use std::alloc::AllocError;
 use std::io::Read;
 use std::net::Net;
 use std::sync::Wait;
+use std::sync::ledger::{Blank, Ledger};
 use std::time;
 
 /// The workers round a shared core, with room for their seats.
 #[derive(Drop)]
-pub(crate) struct Crew<'a, L: Naming, E: Entry, W, C, G, D: Disk + Drop, R: Radio, P: Port + Drop> {
-    desk: Desk<'a, L, E, W, C, G>,
-    workers: Vec<Worker<L, E, D, R, P>>,
-    seats: Vec<Seat<L, E>>,
+pub(crate) struct Crew<'a, L: Ledger, W, C, G, D: Disk + Drop, R: Radio, P: Port + Drop> {
+    desk: Desk<'a, L, W, C, G>,
+    workers: Vec<Worker<L, D, R, P>>,
+    seats: Vec<Seat<L>>,
     ghost none: { seats.items ≡ [] },
 }
 
 // A seat for one more worker.
-fn take_seat<L: Naming, E: Entry, W: Wait, C, G>(desk: &Desk<'_, L, E, W, C, G>) -> Result<Seat<L, E>, ServeFault> {
+fn take_seat<L: Ledger, W: Wait, C, G>(desk: &Desk<'_, L, W, C, G>) -> Result<Seat<L>, ServeFault> {
     desk.shared
         .seat(desk.environment.rt)
         .ok_or(ServeFault::Thread)
 }
 
-fn add<L: Naming, E: Entry, D: Disk + Drop, R: Radio, P: Port + Drop>(
-    workers: &mut Vec<Worker<L, E, D, R, P>>,
-    worker: Worker<L, E, D, R, P>,
+fn add<L: Ledger, D: Disk + Drop, R: Radio, P: Port + Drop>(
+    workers: &mut Vec<Worker<L, D, R, P>>,
+    worker: Worker<L, D, R, P>,
 ) -> Result<(), AllocError> {
     workers.push(worker)?;
     Ok(())
 }
 
 // Adds a worker for each radio. Whether its slot is up is noted.
-fn add_radios<L: Naming, E: Entry, W: Wait, C, G, D: Disk + Drop, R: Radio, P: Port + Drop>(
-    desk: &Desk<'_, L, E, W, C, G>,
+fn add_radios<L: Ledger, W: Wait, C, G, D: Disk + Drop, R: Radio, P: Port + Drop>(
+    desk: &Desk<'_, L, W, C, G>,
     slots: Vec<Slot<R>>,
-    workers: &mut Vec<Worker<L, E, D, R, P>>,
+    workers: &mut Vec<Worker<L, D, R, P>>,
 ) -> Result<(), ServeFault> {
     for slot in slots {
         let seat = take_seat(desk)?;
@@ -62,10 +62,10 @@ fn add_radios<L: Naming, E: Entry, W: Wait, C, G, D: Disk + Drop, R: Radio, P: P
 }
 
 // Adds the worker of the control port, and that of ticks.
-fn add_others<L: Naming, E: Entry, W: Wait, C, G, D: Disk + Drop, R: Radio, P: Port + Drop>(
-    desk: &Desk<'_, L, E, W, C, G>,
+fn add_others<L: Ledger, W: Wait, C, G, D: Disk + Drop, R: Radio, P: Port + Drop>(
+    desk: &Desk<'_, L, W, C, G>,
     port: P,
-    workers: &mut Vec<Worker<L, E, D, R, P>>,
+    workers: &mut Vec<Worker<L, D, R, P>>,
 ) -> Result<(), ServeFault> {
     let control = take_seat(desk)?;
     add(workers, Worker::Control(control, port))?;
@@ -74,33 +74,24 @@ fn add_others<L: Naming, E: Entry, W: Wait, C, G, D: Disk + Drop, R: Radio, P: P
     Ok(())
 }
 
-// The owner of a new committer of the shared core, unless somebody commits.
-fn own<L: Naming, E: Entry, W: Wait, C, G, D: Disk + Drop>(
-    desk: &Desk<'_, L, E, W, C, G>,
-    flusher: Flusher<D>,
-) -> Option<Owner<L, E, D>> {
-    let right = desk.shared.commit_right(desk.environment.rt)?;
-    Some(Owner::new(Committer::new(flusher), right))
-}
-
 // The workers: one that commits, one for each radio, one for the control port and one for ticks.
 //
 // Errors: `Thread` where there are more than seats; `NoMemory`.
-fn workers_of<L: Naming, E: Entry, W: Wait, C, G, D: Disk + Drop, R: Radio, P: Port + Drop>(
-    desk: &Desk<'_, L, E, W, C, G>,
-    owner: Owner<L, E, D>,
+fn workers_of<L: Ledger, W: Wait, C, G, D: Disk + Drop, R: Radio, P: Port + Drop>(
+    desk: &Desk<'_, L, W, C, G>,
+    committer: Committer<D>,
     slots: Vec<Slot<R>>,
     port: P,
-) -> Result<Vec<Worker<L, E, D, R, P>>, ServeFault> {
+) -> Result<Vec<Worker<L, D, R, P>>, ServeFault> {
     let mut workers = Vec::new(desk.environment.alloc);
-    add(&mut workers, Worker::Committing(owner))?;
+    add(&mut workers, Worker::Committing(committer))?;
     add_radios(desk, slots, &mut workers)?;
     add_others(desk, port, &mut workers)?;
     Ok(workers)
 }
 
 // Keeps a seat, if there is one.
-fn keep<L: Naming, E: Entry>(seats: &mut Vec<Seat<L, E>>, seat: Option<Seat<L, E>>) -> Result<(), AllocError>
+fn keep<L: Ledger>(seats: &mut Vec<Seat<L>>, seat: Option<Seat<L>>) -> Result<(), AllocError>
     ensures { OnOk result (entries_of_seats seats.new.items ≡ entries_of_seats seats.old.items + entries_of_seat seat) }
 {
     if let Some(seat) = seat {
@@ -111,7 +102,7 @@ fn keep<L: Naming, E: Entry>(seats: &mut Vec<Seat<L, E>>, seat: Option<Seat<L, E
 
 // Lets each worker go, in order, and keeps its seat.
 fn dismiss<
-    L: Naming, E: Entry,
+    L: Ledger,
     W: Wait + time::Clock + Log,
     C,
     G: Gate,
@@ -119,9 +110,9 @@ fn dismiss<
     R: Radio,
     P: Port + Drop,
 >(
-    desk: &Desk<'_, L, E, W, C, G>,
-    workers: Vec<Worker<L, E, D, R, P>>,
-    seats: &mut Vec<Seat<L, E>>,
+    desk: &Desk<'_, L, W, C, G>,
+    workers: Vec<Worker<L, D, R, P>>,
+    seats: &mut Vec<Seat<L>>,
 ) -> Result<(), AllocError>
     ensures { OnOk result
         (entries_of_seats seats.new.items ≡ entries_of_seats seats.old.items + entries_of_all workers.items) }
@@ -134,40 +125,35 @@ fn dismiss<
 
 impl<
     'a,
-    L: Naming + Send + Sync,
-    E: Entry + Send,
+    L: Ledger + Send + Sync,
     W: Host + Net<Stream: Send + Sync, Listener: Send + Sync>,
     C: Clock + Sync,
     G: Gate + Sync,
     D: Disk + Drop + Send,
     R: Radio + Send,
     P: Port + Drop + Send,
-> Crew<'a, L, E, W, C, G, D, R, P> {
-    /// The crew over a core: a worker that commits with this flusher, one for each radio of these slots, one for the control
-    /// port and one for ticks. They share the core, whose one history has these names.
+> Crew<'a, L, W, C, G, D, R, P> {
+    /// The crew of a started world, which is taken apart: a worker that commits, one for each radio, one for the control
+    /// port and one for ticks. They share the world's core over the ledger of this blank.
     ///
     /// Errors: `Thread` where there are more workers than seats; `NoMemory`.
     pub(crate) fn new(
         environment: &'a Environment<'a, W, C, G>,
-        names: Names<E>,
-        core: Core,
-        flusher: Flusher<D>,
-        slots: Vec<Slot<R>>,
+        blank: Blank,
+        world: StartedWorld<D, R>,
         port: P,
-    ) -> Result<Crew<'a, L, E, W, C, G, D, R, P>, ServeFault>
-        requires names { AreNames L.seats L.table L.commits names }
-        requires first { core ≡ L.first }
+    ) -> Result<Crew<'a, L, W, C, G, D, R, P>, ServeFault>
+        requires name { blank.name ≡ L.name }
+        requires parts { blank.parts ≡ L.parts }
+        requires all { blank.parts ≡ SEATS }
     {
-        let shared = Shared::<L, E>::new(core, names);
+        let (flusher, core, slots) = world.into_world().into_parts();
+        let shared = Shared::<L>::new(core, blank);
         let desk = Desk {
             environment,
             shared,
         };
-        let Some(owner) = own(&desk, flusher) else {
-            drop(desk);
-            return Err(ServeFault::Thread);
-        };
-        let workers = match workers_of(&desk, owner, slots, port) {
+        let workers = match workers_of(&desk, Committer::new(flusher), slots, port) {
             Ok(workers) => workers,
             Err(fault) => {
                 drop(desk);
@@ -194,7 +180,7 @@ impl<
     pub(crate) fn work<B: Read>(
         self,
         reader: &mut B,
-    ) -> Result<Crew<'a, L, E, W, C, G, D, R, P>, ServeFault> {
+    ) -> Result<Crew<'a, L, W, C, G, D, R, P>, ServeFault> {
         let Crew {
             desk,
             workers,
@@ -221,6 +207,7 @@ impl<
     ///
     /// Errors: `Thread` where a seat is missing; `NoMemory`, which can't come where the seats have room for all.
     pub(crate) fn close(self) -> Result<u64, ServeFault>
+        requires { L.parts ≡ SEATS }
         ensures { IfOk result (λ entries. entries ≡ entries_of_all self.entry.workers.items) }
     {
         let Crew {

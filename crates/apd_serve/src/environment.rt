@@ -1,10 +1,11 @@
 //! What surrounds a core that is served.
 use crate::threads::Stops;
-use apd_desk::{Entry, Naming, Shared};
+use apd_desk::Shared;
 use apd_site::{Alarm, tell_served};
 use log::Log;
 use std::alloc::Global;
 use std::sync::Wait;
+use std::sync::ledger::Ledger;
 
 /// What a world is served with, whatever the world is: all of it is lent to each thread.
 #[derive(Drop)]
@@ -45,12 +46,12 @@ impl<'a, W, C, G> Environment<'a, W, C, G> {
 
 /// What the workers round one core share: the core, and what surrounds it.
 #[derive(Drop)]
-pub(crate) struct Desk<'a, L: Naming, E: Entry, W, C, G> {
+pub(crate) struct Desk<'a, L: Ledger, W, C, G> {
     pub(crate) environment: &'a Environment<'a, W, C, G>,
-    pub(crate) shared: Shared<L, E>,
+    pub(crate) shared: Shared<L>,
 }
 
-impl<L: Naming, E: Entry, W: Wait + Log, C, G> Stops for Desk<'_, L, E, W, C, G> {
+impl<L: Ledger, W: Wait + Log, C, G> Stops for Desk<'_, L, W, C, G> {
     fn tell_started(&self) {
         if let Some(words) = self.environment.served {
             tell_served(self.environment.rt, words);

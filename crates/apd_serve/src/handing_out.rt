@@ -8,7 +8,7 @@ ghost use Rattle.apd_desk.specs.SeatProgress.{IsLater};
 ghost use Rattle.apd_desk.specs.Serving.{HasServed};
 ghost use Rattle.apd_serve.specs.HandedOut.{IsHandedBy};
 
-use apd_desk::{Entry, Naming, Port, Progress, Seat, Shared, mend_first, tend};
+use apd_desk::{Port, Progress, Seat, Shared, mend_first, tend};
 use apd_mlme::{Out, Recipient};
 use apd_radio::Radio;
 use apd_site::tell_not_handed_out;
@@ -16,6 +16,7 @@ use apd_slot::{Mending, Slot};
 use log::Log;
 use std::alloc::Global;
 use std::sync::Wait;
+use std::sync::ledger::Ledger;
 use std::thread::sleep;
 use std::time::{Clock, Duration};
 
@@ -26,10 +27,10 @@ const PAUSE: u64 = 1;
 
 // What of settled entries a recipient was not given yet. It tries again where memory lacks; where it lacks in the end,
 // there is none.
-fn collect<L: Naming, E: Entry, W: Wait + Clock>(
+fn collect<L: Ledger, W: Wait + Clock>(
     rt: &W,
-    shared: &Shared<L, E>,
-    seat: &mut Seat<L, E>,
+    shared: &Shared<L>,
+    seat: &mut Seat<L>,
     to: Recipient,
 ) -> Option<Vec<Out>>
     ensures count { seat.new.count ≡ seat.old.count }
@@ -74,14 +75,14 @@ fn empty<W: Clock, R: Radio>(rt: &W, slot: &mut Slot<R>, mending: &mut Mending<R
 
 // Puts into a slot's queue what of settled entries it was not given yet, and tries again where
 // memory lacks. Tells whether it did.
-fn hand<L: Naming, E: Entry, W: Wait + Clock, R: Radio>(
+fn hand<L: Ledger, W: Wait + Clock, R: Radio>(
     rt: &W,
-    shared: &Shared<L, E>,
-    seat: &mut Seat<L, E>,
+    shared: &Shared<L>,
+    seat: &mut Seat<L>,
     slot: &mut Slot<R>,
 ) -> bool
     ensures count { seat.new.count ≡ seat.old.count }
-    ensures hands { IsHandedBy L.first R.model R.frames seat.old seat.new slot.old slot.new }
+    ensures hands { IsHandedBy R.model R.frames seat.old seat.new slot.old slot.new }
 {
     for _ in 0..TRIES {
         if shared.hand_to(rt, seat, slot).is_ok() {
@@ -93,15 +94,15 @@ fn hand<L: Naming, E: Entry, W: Wait + Clock, R: Radio>(
 }
 
 // Gives a slot what waits there, and then what of settled entries it was not given yet. Tells whether it was given all.
-fn give_all<L: Naming, E: Entry, W: Wait + Clock, R: Radio>(
+fn give_all<L: Ledger, W: Wait + Clock, R: Radio>(
     rt: &W,
-    shared: &Shared<L, E>,
-    seat: &mut Seat<L, E>,
+    shared: &Shared<L>,
+    seat: &mut Seat<L>,
     slot: &mut Slot<R>,
     mending: &mut Mending<R>,
 ) -> bool
     ensures count { seat.new.count ≡ seat.old.count }
-    ensures run { IsRadioRun R.model R.frames (by_seat L.first) seat.old seat.new
+    ensures run { IsRadioRun R.model R.frames by_seat seat.old seat.new
         slot.old slot.new mending.old mending.new }
     ensures none_waits { IsTrue result → queue_of slot.new ≡ [] }
 {
@@ -118,14 +119,14 @@ fn give_all<L: Naming, E: Entry, W: Wait + Clock, R: Radio>(
 /// an out that was not taken. Where the slot is down, or goes down at an out, its own radio is given anew what is
 /// wanted before the next out, three times at most, with a rest between. Where memory lacks it tries again; what it
 /// lacks for in the end waits on, which is logged.
-pub(crate) fn hand_out<L: Naming, E: Entry, W: Wait + Clock + Log, R: Radio>(
+pub(crate) fn hand_out<L: Ledger, W: Wait + Clock + Log, R: Radio>(
     rt: &W,
     alloc: Global,
-    shared: &Shared<L, E>,
-    seat: &mut Seat<L, E>,
+    shared: &Shared<L>,
+    seat: &mut Seat<L>,
     slot: &mut Slot<R>,
 )
-    ensures served { HasServed L.first R.model R.frames [] seat.old seat.new slot.old slot.new }
+    ensures served { HasServed R.model R.frames [] seat.old seat.new slot.old slot.new }
     ensures count { seat.new.count ≡ seat.old.count }
     ensures later { IsLater seat.old seat.new }
     ensures given { IsGivenOn R.model slot.old slot.new }
@@ -138,10 +139,10 @@ pub(crate) fn hand_out<L: Naming, E: Entry, W: Wait + Clock + Log, R: Radio>(
 }
 
 /// Sends the replies to orders that are settled. What the port loses is lost; that memory lacked for them is logged.
-pub(crate) fn reply_last<L: Naming, E: Entry, W: Wait + Clock + Log, P: Port>(
+pub(crate) fn reply_last<L: Ledger, W: Wait + Clock + Log, P: Port>(
     rt: &W,
-    shared: &Shared<L, E>,
-    seat: &mut Seat<L, E>,
+    shared: &Shared<L>,
+    seat: &mut Seat<L>,
     port: &mut P,
 )
     ensures count { seat.new.count ≡ seat.old.count }

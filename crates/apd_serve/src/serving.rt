@@ -1,29 +1,25 @@
 //! An access point that serves, in threads.
 ghost use Rattle.std.specs.Prelude.{◌≡◌};
-ghost use Rattle.apd_desk.specs.Naming.{AreNames};
 
 use crate::crew::Crew;
 use crate::environment::Environment;
 use crate::fault::ServeFault;
 use crate::host::Host;
 use crate::started::{StartedWorld, start};
-use apd_core::Core;
-use apd_desk::{Change, Clock, Entry, Gate, Names, Naming, Port};
+use apd_desk::{Clock, Gate, Port, SEATS};
 use apd_disk::Disk;
-use apd_flusher::Flusher;
 use apd_radio::Radio;
 use apd_site::Alarm;
-use apd_slot::Slot;
 use apd_world::World;
 use std::alloc::Global;
 use std::io::Read;
 use std::marker::Brand;
 use std::net::Net;
+use std::sync::ledger::{Blank, Ledger};
 
-// Has a crew work over a core until the input ends, and closes what is left, over one history.
+// Has the crew of a started world work until the input ends, and closes what is left, over one ledger.
 fn serve_crew<
-    L: Naming + Send + Sync,
-    E: Entry + Send,
+    L: Ledger + Send + Sync,
     W: Host + Net<Stream: Send + Sync, Listener: Send + Sync>,
     C: Clock + Sync,
     G: Gate + Sync,
@@ -33,17 +29,16 @@ fn serve_crew<
     B: Read,
 >(
     environment: &Environment<'_, W, C, G>,
-    names: Names<E>,
-    core: Core,
-    flusher: Flusher<D>,
-    slots: Vec<Slot<R>>,
+    blank: Blank,
+    world: StartedWorld<D, R>,
     port: P,
     reader: &mut B,
 ) -> Result<u64, ServeFault>
-    requires names { AreNames L.seats L.table L.commits names }
-    requires first { core ≡ L.first }
+    requires name { blank.name ≡ L.name }
+    requires parts { blank.parts ≡ L.parts }
+    requires all { blank.parts ≡ SEATS }
 {
-    let crew = Crew::<L, E, W, C, G, D, R, P>::new(environment, names, core, flusher, slots, port)?;
+    let crew = Crew::<L, W, C, G, D, R, P>::new(environment, blank, world, port)?;
     let crew = crew.work(reader)?;
     crew.close()
 }
@@ -63,11 +58,8 @@ pub(crate) fn serve_started<
     port: P,
     reader: &mut B,
 ) -> Result<u64, ServeFault> {
-    let names = Names::new(environment.alloc)?;
-    let (flusher, core, slots) = world.into_world().into_parts();
-    serve_crew::<Brand, Change, W, C, G, D, R, P, B>(
-        environment, names, core, flusher, slots, port, reader,
-    )
+    let blank = Blank::new(u64::from(SEATS));
+    serve_crew::<Brand, W, C, G, D, R, P, B>(environment, blank, world, port, reader)
 }
 
 /// Serves an access point until the input ends or fails: configures each interface, which is committed and handed

@@ -9,8 +9,7 @@ use crate::environment::{Desk, Environment};
 use crate::handing_out::{hand_out, reply_last};
 use crate::threads::Job;
 use apd_desk::{
-    Clock, Ending, Entry, Gate, Naming, Owner, Port, Seat, commit_all, control_worker,
-    radio_worker, tick_worker,
+    Clock, Ending, Gate, Port, Seat, commit_all, control_worker, radio_worker, tick_worker,
 };
 use apd_disk::Disk;
 use apd_flusher::{Committer, Phase};
@@ -20,34 +19,35 @@ use apd_slot::Slot;
 use log::Log;
 use std::net::Net;
 use std::sync::Wait;
+use std::sync::ledger::Ledger;
 use std::time;
 
 /// A worker, by what it owns.
 #[derive(Drop)]
-pub(crate) enum Worker<L: Naming, E: Entry, D: Disk + Drop, R: Radio, P: Port + Drop> {
+pub(crate) enum Worker<L: Ledger, D: Disk + Drop, R: Radio, P: Port + Drop> {
     /// Commits.
-    Committing(Owner<L, E, D>),
+    Committing(Committer<D>),
     /// Serves a radio.
-    Radio(Seat<L, E>, Slot<R>),
+    Radio(Seat<L>, Slot<R>),
     /// Serves the control port.
-    Control(Seat<L, E>, P),
+    Control(Seat<L>, P),
     /// Submits ticks.
-    Ticks(Seat<L, E>),
+    Ticks(Seat<L>),
 }
 
 impl<
     'a,
-    L: Naming, E: Entry,
+    L: Ledger,
     D: Disk + Drop,
     R: Radio,
     P: Port + Drop,
     W: Wait + time::Clock + Log + Net,
     C: Clock,
     G: Gate,
-> Job<Desk<'a, L, E, W, C, G>> for Worker<L, E, D, R, P> {
-    fn work(self, desk: &Desk<'a, L, E, W, C, G>) -> Worker<L, E, D, R, P>
+> Job<Desk<'a, L, W, C, G>> for Worker<L, D, R, P> {
+    fn work(self, desk: &Desk<'a, L, W, C, G>) -> Worker<L, D, R, P>
         ensures entries { entries_of self ≤ entries_of result }
-        ensures worked { HasWorked D.model L.first R.model self result }
+        ensures worked { HasWorked D.model R.model self result }
     {
         let Desk {
             environment,
@@ -61,7 +61,7 @@ impl<
             ..
         } = *environment;
         match self {
-            Worker::Committing(owner) => Worker::Committing(commit(desk, owner)),
+            Worker::Committing(committer) => Worker::Committing(commit(desk, committer)),
             Worker::Radio(seat, slot) => {
                 let none = Vec::new(*alloc);
                 let (seat, slot) = radio_worker(
@@ -96,13 +96,12 @@ fn tell_refusal<W: Log>(rt: &W, phase: Phase, alarm: &Alarm) {
 
 // Commits until a stop, or until the store refuses, and gives back what is left: a batch or a receipt that was refused
 // waits there. That the device failed, or the store is worn out, is told when it comes.
-fn commit<L: Naming, E: Entry, W: Wait + time::Clock + Log, C, G: Gate, D: Disk>(
-    desk: &Desk<'_, L, E, W, C, G>,
-    owner: Owner<L, E, D>,
-) -> Owner<L, E, D>
-    ensures led { IsLed D.model L.first owner.front result.front owner.committer result.committer }
-    ensures keeps { Keeps D.model owner.committer result.committer }
-    ensures begun { result.begun ≡ owner.begun }
+fn commit<L: Ledger, W: Wait + time::Clock + Log, C, G: Gate, D: Disk>(
+    desk: &Desk<'_, L, W, C, G>,
+    committer: Committer<D>,
+) -> Committer<D>
+    ensures led { IsLed D.model committer result }
+    ensures keeps { Keeps D.model committer result }
 {
     let Environment {
         rt,
@@ -110,26 +109,27 @@ fn commit<L: Naming, E: Entry, W: Wait + time::Clock + Log, C, G: Gate, D: Disk>
         alarm,
         ..
     } = desk.environment;
-    let had_refused = has_refused(owner.committer());
-    let (owner, ending) = commit_all(*rt, &desk.shared, owner, *gate);
+    let mut committer = committer;
+    let had_refused = has_refused(&committer);
+    let ending = commit_all(*rt, &desk.shared, &mut committer, *gate);
     if ending == Ending::Refused && !had_refused {
-        tell_refusal(*rt, owner.committer().phase(), *alarm);
+        tell_refusal(*rt, committer.phase(), *alarm);
     }
-    owner
+    committer
 }
 
-impl<L: Naming, E: Entry, D: Disk + Drop, R: Radio, P: Port + Drop> Worker<L, E, D, R, P> {
+impl<L: Ledger, D: Disk + Drop, R: Radio, P: Port + Drop> Worker<L, D, R, P> {
     // Does once more what it is for: commits what was accepted since it looked last, or hands out what was settled.
     fn finish<W: Wait + time::Clock + Log, C, G: Gate>(
         self,
-        desk: &Desk<'_, L, E, W, C, G>,
-    ) -> Worker<L, E, D, R, P>
+        desk: &Desk<'_, L, W, C, G>,
+    ) -> Worker<L, D, R, P>
         ensures entries { entries_of result ≡ entries_of self }
-        ensures worked { HasWorked D.model L.first R.model self result }
+        ensures worked { HasWorked D.model R.model self result }
     {
         let Environment { rt, alloc, .. } = desk.environment;
         match self {
-            Worker::Committing(owner) => Worker::Committing(commit(desk, owner)),
+            Worker::Committing(committer) => Worker::Committing(commit(desk, committer)),
             Worker::Radio(seat, slot) => {
                 let (mut seat, mut slot) = (seat, slot);
                 hand_out(*rt, *alloc, &desk.shared, &mut seat, &mut slot);
@@ -145,12 +145,12 @@ impl<L: Naming, E: Entry, D: Disk + Drop, R: Radio, P: Port + Drop> Worker<L, E,
     }
 
     // Lets go what it owns, but for its seat.
-    fn into_seat(self) -> Option<Seat<L, E>>
+    fn into_seat(self) -> Option<Seat<L>>
         ensures { entries_of_seat result ≡ entries_of self }
     {
         match self {
-            Worker::Committing(owner) => {
-                drop(owner);
+            Worker::Committing(committer) => {
+                drop(committer);
                 None
             }
             Worker::Radio(seat, slot) => {
@@ -168,8 +168,8 @@ impl<L: Naming, E: Entry, D: Disk + Drop, R: Radio, P: Port + Drop> Worker<L, E,
     /// Does once more what it is for. Then it lets go what it owns, and gives its seat, if it has one.
     pub(crate) fn leave<W: Wait + time::Clock + Log, C, G: Gate>(
         self,
-        desk: &Desk<'_, L, E, W, C, G>,
-    ) -> Option<Seat<L, E>>
+        desk: &Desk<'_, L, W, C, G>,
+    ) -> Option<Seat<L>>
         ensures { entries_of_seat result ≡ entries_of self }
     {
         self.finish(desk).into_seat()

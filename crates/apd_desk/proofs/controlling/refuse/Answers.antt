@@ -12,6 +12,6 @@ same_text Unknown = refl
 same_text Fail = refl
 
 pub returns : goal.returns
-returns g c = λ first seen.
-    sent (IsAtOnce first seen) c.reply-sent.result (c.args.tag, c.text.result.now) _ _ c.reply-sent.ensures.replied c.reply-sent.ensures.lost
+returns g c =
+    sent IsAtOnce c.reply-sent.result (c.args.tag, c.text.result.now) _ _ c.reply-sent.ensures.replied c.reply-sent.ensures.lost
     (inl (c.args.tag, c.args.refusal, ap (λ (t : List ℕ). (c.args.tag, t) ∷ []) (c.text.ensures ∙ same_text c.args.refusal)))

@@ -1,7 +1,5 @@
 use Rattle.std.proofs.Common.{◌≡◌, ◌+◌, arith}
 use Rattle.apd_core.specs.Core.{last_of}
-use Rattle.apd_history.specs.declared.entry.Kind.TheVariants.{Submit}
-use Rattle.apd_history.proofs.Noting.{one_more_of}
 use Rattle.apd_desk.specs.Counted.{entries_in}
 use Rattle.apd_desk.proofs.Counting.{last_after, own_after}
 use Rattle.apd_desk.proofs.locked.Locked.submit.Goals as goal
@@ -36,6 +34,3 @@ returns-clause-core g c = c.in_ok-answer.ensures.1.1
 
 pub returns-clause-own : goal.returns-clause-own
 returns-clause-own g c = own_after c.args.self.now.core c.args.moment c.args.input c.in_ok-answer.answer c.in_ok-answer.ensures.1.0
-
-pub returns-clause-logged : goal.returns-clause-logged
-returns-clause-logged g c = one_more_of Submit _ _ _ _ _ _ c.of-before.ensures c.meet.ensures.same c.note.ensures.one_more

@@ -1,5 +1,4 @@
 use Rattle.std.proofs.Common.{arith}
-use Rattle.apd_history.proofs.Called.{at}
 use Rattle.apd_desk.proofs.Asking.{by_ask}
 use Rattle.apd_desk.proofs.Replies.{told}
 use Rattle.apd_desk.proofs.shared.Shared.ask.Goals as goal
@@ -8,11 +7,9 @@ pub returns-clause-behind : goal.returns-clause-behind
 returns-clause-behind g c = λ number is. let h = (c.ask.ensures.behind number).0 is in omega (arith, h)
 
 pub returns-clause-told : goal.returns-clause-told
-returns-clause-told g c =
-    let s = c.ask.ensures in
-    told g.L.Naming.first c.ask.result c.deref_mut.result.now.core c.args.query _ c.deref_mut.result.now.keeper _ (at _ _ c.deref_mut.result.now.keeper _ c.deref_mut.result.now.at s.named) s.front s.unlogged s.answer
+returns-clause-told g c = told c.ask.result c.deref.result.now.core c.args.query c.ask.ensures.answer
 
 pub returns-clause-tells : goal.returns-clause-tells
 returns-clause-tells g c =
     let s = c.ask.ensures in
-    by_ask g.L.Naming.first _ c.args.seat.now c.ask.new.seat _ _ (at _ _ c.deref_mut.result.now.keeper _ c.deref_mut.result.now.at s.named) s.begins s.front s.unlogged c.ask.result c.args.query s.tells s.never_back s.err s.count
+    by_ask _ c.args.seat.now c.ask.new.seat c.ask.result c.args.query s.tells s.never_back s.err s.count

@@ -1,5 +1,4 @@
-use Rattle.std.proofs.Common.{refl, subst, sym}
-use Rattle.apd_desk.proofs.Seats.{same_later}
+use Rattle.std.proofs.Common.{le_of_eq, refl, subst, sym}
 use Rattle.apd_serve.specs.Worked.{HasWorked}
 use Rattle.apd_serve.specs.declared.worker.Worker.{Worker}
 use Rattle.apd_serve.specs.declared.worker.Worker.TheVariants.{Committing, Radio, Control, Ticks}
@@ -8,20 +7,20 @@ use Rattle.apd_serve.proofs.worker.Worker.finish.Goals as goal
 
 pub returns-in-Committing-clause-worked : goal.returns-in-Committing-clause-worked
 returns-in-Committing-clause-worked g c =
-    subst (λ (old : Worker g.row.L.Denot g.row.E.Denot g.row.D.Denot g.row.R.Denot g.row.P.Denot g.E.Entry). HasWorked g.D.Disk.model g.L.Naming.first g.R.Radio.model old (Committing c.commit.result)) (sym c.in-Committing.is)
-    (has_committed g.D.Disk.model g.L.Naming.first g.R.Radio.model c.in-Committing.owner c.commit.result c.commit.ensures.led c.commit.ensures.keeps)
+    subst (λ (old : Worker g.row.L.Denot g.row.D.Denot g.row.R.Denot g.row.P.Denot). HasWorked g.D.Disk.model g.R.Radio.model old (Committing c.commit.result)) (sym c.in-Committing.is)
+    (has_committed g.D.Disk.model g.R.Radio.model c.in-Committing.committer c.commit.result c.commit.ensures.led c.commit.ensures.keeps)
 
 pub returns-in-Radio-clause-worked : goal.returns-in-Radio-clause-worked
 returns-in-Radio-clause-worked g c =
-    subst (λ (old : Worker g.row.L.Denot g.row.E.Denot g.row.D.Denot g.row.R.Denot g.row.P.Denot g.E.Entry). HasWorked g.D.Disk.model g.L.Naming.first g.R.Radio.model old (Radio c.hand_out.new.seat c.hand_out.new.slot)) (sym c.in-Radio.is)
-    (has_served g.D.Disk.model g.L.Naming.first g.R.Radio.model c.in-Radio.seat c.hand_out.new.seat c.in-Radio.slot c.hand_out.new.slot c.hand_out.ensures.later c.hand_out.ensures.given)
+    subst (λ (old : Worker g.row.L.Denot g.row.D.Denot g.row.R.Denot g.row.P.Denot). HasWorked g.D.Disk.model g.R.Radio.model old (Radio c.hand_out.new.seat c.hand_out.new.slot)) (sym c.in-Radio.is)
+    (has_served g.D.Disk.model g.R.Radio.model c.in-Radio.seat c.hand_out.new.seat c.in-Radio.slot c.hand_out.new.slot c.hand_out.ensures.later c.hand_out.ensures.given)
 
 pub returns-in-Control-clause-worked : goal.returns-in-Control-clause-worked
 returns-in-Control-clause-worked g c =
-    subst (λ (old : Worker g.row.L.Denot g.row.E.Denot g.row.D.Denot g.row.R.Denot g.row.P.Denot g.E.Entry). HasWorked g.D.Disk.model g.L.Naming.first g.R.Radio.model old (Control c.reply_last.new.seat c.reply_last.new.port)) (sym c.in-Control.is)
-    (has_replied g.D.Disk.model g.L.Naming.first g.R.Radio.model c.in-Control.seat c.reply_last.new.seat c.in-Control.port c.reply_last.new.port c.reply_last.ensures.later)
+    subst (λ (old : Worker g.row.L.Denot g.row.D.Denot g.row.R.Denot g.row.P.Denot). HasWorked g.D.Disk.model g.R.Radio.model old (Control c.reply_last.new.seat c.reply_last.new.port)) (sym c.in-Control.is)
+    (has_replied g.D.Disk.model g.R.Radio.model c.in-Control.seat c.reply_last.new.seat c.in-Control.port c.reply_last.new.port c.reply_last.ensures.later)
 
 pub returns-in-Ticks-clause-worked : goal.returns-in-Ticks-clause-worked
 returns-in-Ticks-clause-worked g c =
-    subst (λ (old : Worker g.row.L.Denot g.row.E.Denot g.row.D.Denot g.row.R.Denot g.row.P.Denot g.E.Entry). HasWorked g.D.Disk.model g.L.Naming.first g.R.Radio.model old (Ticks c.in-Ticks.seat)) (sym c.in-Ticks.is)
-    (has_ticked g.D.Disk.model g.L.Naming.first g.R.Radio.model c.in-Ticks.seat c.in-Ticks.seat (same_later c.in-Ticks.seat c.in-Ticks.seat refl))
+    subst (λ (old : Worker g.row.L.Denot g.row.D.Denot g.row.R.Denot g.row.P.Denot). HasWorked g.D.Disk.model g.R.Radio.model old (Ticks c.in-Ticks.seat)) (sym c.in-Ticks.is)
+    (has_ticked g.D.Disk.model g.R.Radio.model c.in-Ticks.seat c.in-Ticks.seat (le_of_eq refl, le_of_eq refl))
